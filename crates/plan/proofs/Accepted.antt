@@ -1,0 +1,91 @@
+-- An accepted plan breaks no line, and a plan that breaks none is accepted.
+--
+--   unbroken, accepted-passed, passed-accepted   the two directions
+--   refused-1 .. refused-7                       the number, where a line is the first to be broken
+--   accepted-room, accepted-there                what the readers need of an accepted plan
+--
+-- Assumes nothing.
+use mathlib.Core.Path.{_≡_, refl, sym, _∙_, ap}
+use mathlib.Core.Logic.{_⊎_, inl, inr}
+use mathlib.Core.Bool.{Bool, true, false}
+use Prim.Native.Nat.{ℕ, _+_, _*_, _≤_, _<_}
+use mathlib.Core.List.{List, [], _∷_, List·Memᴰ, List·Memᴰ·head, List·Memᴰ·tail, List·Memᴰ·not-nil, List·Memᴰ·cases-cons}
+use native.Mathlib.Omega.{arith}
+use lib.ListN.{length}
+use Rattle.plan.specs.Records.{junctions, records}
+use Rattle.plan.specs.Refusals.{broken1, broken2, broken3, broken4, broken5, broken6, broken7, Passed2, Passed4, Passed6, Line, planLines, firstBroken, refusal}
+use Rattle.plan.specs.Claims.{Unbroken}
+use Rattle.plan.specs.Reading.{Accepted}
+use Rattle.plan.proofs.First.{passed, none-broken}
+use Rattle.plan.proofs.Lists.{all-in}
+use Rattle.plan.proofs.Forms.{sized, header}
+use borrow.Author.Tests.{leb-true}
+use lib.Dec.{leb}
+
+-- no line has the number 0
+numbered : (l : Line) → List·Memᴰ l planLines → 1 ≤ l .number
+numbered l m = leb-true 1 (l .number) (all-in (λ (k : Line). leb 1 (k .number)) planLines refl m)
+
+pub unbroken : (b : List ℕ) → refusal b ≡ 0 → Unbroken planLines b
+unfolding refusal
+unbroken b e = passed planLines b numbered e
+
+pub accepted-passed : (b : List ℕ) → refusal b ≡ 0 → Passed6 b × (broken7 b ≡ false)
+accepted-passed b e =
+    let u = unbroken b e in (
+      (
+        (
+          (u _ (List·Memᴰ·head refl), u _ (List·Memᴰ·tail (List·Memᴰ·head refl))),
+          u _ (List·Memᴰ·tail (List·Memᴰ·tail (List·Memᴰ·head refl))),
+          u _ (List·Memᴰ·tail (List·Memᴰ·tail (List·Memᴰ·tail (List·Memᴰ·head refl)))),
+        ),
+        u _ (List·Memᴰ·tail (List·Memᴰ·tail (List·Memᴰ·tail (List·Memᴰ·tail (List·Memᴰ·head refl))))),
+        u _ (List·Memᴰ·tail (List·Memᴰ·tail (List·Memᴰ·tail (List·Memᴰ·tail (List·Memᴰ·tail (List·Memᴰ·head refl)))))),
+      ),
+      u _ (List·Memᴰ·tail (List·Memᴰ·tail (List·Memᴰ·tail (List·Memᴰ·tail (List·Memᴰ·tail (List·Memᴰ·tail (List·Memᴰ·head refl))))))),
+    )
+
+pub passed-accepted : (b : List ℕ) → Passed6 b → broken7 b ≡ false → refusal b ≡ 0
+unfolding refusal
+passed-accepted b h k =
+    rw (h .0 .0 .0, firstBroken) (rw (h .0 .0 .1, firstBroken) (rw (h .0 .1, firstBroken) (rw (h .0 .2, firstBroken) (rw (h .1, firstBroken) (rw (h .2, firstBroken) (rw (k, firstBroken)))))))
+
+-- ---- the number, where a line is the first to be broken
+
+pub refused-1 : (b : List ℕ) → broken1 b ≡ true → refusal b ≡ 1
+unfolding refusal
+refused-1 b k = rw (k, firstBroken)
+
+pub refused-2 : (b : List ℕ) → broken1 b ≡ false → broken2 b ≡ true → refusal b ≡ 2
+unfolding refusal
+refused-2 b h k = rw (h, firstBroken) (rw (k, firstBroken))
+
+pub refused-3 : (b : List ℕ) → Passed2 b → broken3 b ≡ true → refusal b ≡ 3
+unfolding refusal
+refused-3 b h k = rw (h .0, firstBroken) (rw (h .1, firstBroken) (rw (k, firstBroken)))
+
+pub refused-4 : (b : List ℕ) → Passed2 b → broken3 b ≡ false → broken4 b ≡ true → refusal b ≡ 4
+unfolding refusal
+refused-4 b h h3 k = rw (h .0, firstBroken) (rw (h .1, firstBroken) (rw (h3, firstBroken) (rw (k, firstBroken))))
+
+pub refused-5 : (b : List ℕ) → Passed4 b → broken5 b ≡ true → refusal b ≡ 5
+unfolding refusal
+refused-5 b h k = rw (h .0 .0, firstBroken) (rw (h .0 .1, firstBroken) (rw (h .1, firstBroken) (rw (h .2, firstBroken) (rw (k, firstBroken)))))
+
+pub refused-6 : (b : List ℕ) → Passed4 b → broken5 b ≡ false → broken6 b ≡ true → refusal b ≡ 6
+unfolding refusal
+refused-6 b h h5 k = rw (h .0 .0, firstBroken) (rw (h .0 .1, firstBroken) (rw (h .1, firstBroken) (rw (h .2, firstBroken) (rw (h5, firstBroken) (rw (k, firstBroken))))))
+
+pub refused-7 : (b : List ℕ) → Passed6 b → broken7 b ≡ true → refusal b ≡ 7
+unfolding refusal
+refused-7 b h k = rw (h .0 .0 .0, firstBroken) (rw (h .0 .0 .1, firstBroken) (rw (h .0 .1, firstBroken) (rw (h .0 .2, firstBroken) (rw (h .1, firstBroken) (rw (h .2, firstBroken) (rw (k, firstBroken)))))))
+
+-- ---- what readers need
+
+-- there are records beyond the junctions
+pub accepted-room : {b : List ℕ} → Accepted b → junctions b < records b
+accepted-room {b} ok = header b (accepted-passed b (ok .unrefused) .0 .0 .0 .1) .room
+
+-- a record below N is there
+pub accepted-there : {b : List ℕ} → Accepted b → (i : ℕ) → i < records b → 12 * i + 12 ≤ length b
+accepted-there {b} ok i h = let s = sized b (accepted-passed b (ok .unrefused) .0 .0 .0 .0) in omega arith

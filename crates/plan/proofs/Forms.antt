@@ -1,0 +1,134 @@
+-- Lines 1 to 3 as facts: what an unbroken line says in numbers, and what numbers leave it unbroken.
+--
+--   Allowed u v       a field of use u may hold v, as a fact; allowed, allow: the same as `allows`
+--   fits-fields       a record fits exactly when each of its five fields is allowed
+--   sizes, header     what lines 1 and 2 say
+--   kind-low, kind-high
+--                     the kinds that line 3 lets stand at a place
+--
+-- Assumes nothing.
+use mathlib.Core.Path.{_≡_, refl, sym, _∙_, ap, subst}
+use mathlib.Core.Logic.{_⊎_, inl, inr, _↔_}
+use mathlib.Core.Bool.{Bool, true, false, not, _&&_, _||_}
+use Prim.Native.Nat.{ℕ, zero, suc, _+_, _*_, _≤_, _<_}
+use mathlib.Core.List.{List, [], _∷_}
+use native.Mathlib.Omega.{arith}
+use lib.ListN.{length}
+use lib.Dec.{eqb, leb, ltb}
+use borrow.Author.Tests.{eqb-true, eq-eqb, ltb-true, lt-ltb, leb-true, le-leb, lt-leb, not-false}
+use Rattle.plan.specs.declared.table.Use.{Use}
+use Rattle.plan.specs.declared.table.Use.the-variants.{Any, Unused, Between, Chain}
+use Rattle.plan.specs.declared.table.Row.{Row}
+use Rattle.plan.specs.Lists.{all, within, mem}
+use Rattle.plan.specs.Records.{field, kind, junctions, modes, records, rowOf, rowAt, useAt, allows, fields, fits}
+use Rattle.plan.specs.Refusals.{broken1, broken2, kindsBy, rightKind}
+use Rattle.plan.specs.Limits.{Sizes, Header}
+use Rattle.plan.proofs.Lists.{both, and-is}
+
+-- ---- one field
+
+pub within-is : (a n z : ℕ) → within a n z ≡ true → (a ≤ n) × (n ≤ z)
+within-is a n z h = let k = both (leb a n) (leb n z) h in (leb-true a n (k .0), leb-true n z (k .1))
+
+pub is-within : (a n z : ℕ) → a ≤ n → n ≤ z → within a n z ≡ true
+is-within a n z l u = and-is (leb a n) (leb n z) (le-leb a n l) (le-leb n z u)
+
+abbrev pub Allowed : Use → ℕ → Type 0
+Allowed Any v = Unit {0}
+Allowed Unused v = v ≡ 0
+Allowed (Between a z) v = (a ≤ v) × (v ≤ z)
+Allowed (Chain k) v = Unit {0}
+
+allowed : (u : Use) (v : ℕ) → allows u v ≡ true → Allowed u v
+allowed Any v h = tt
+allowed Unused v h = eqb-true v 0 h
+allowed (Between a z) v h = within-is a v z h
+allowed (Chain k) v h = tt
+
+allow : (u : Use) (v : ℕ) → Allowed u v → allows u v ≡ true
+allow Any v h = refl
+allow Unused v h = eq-eqb v 0 h
+allow (Between a z) v h = is-within a v z (h .0) (h .1)
+allow (Chain k) v h = refl
+
+-- ---- a record
+
+abbrev pub Fields : List ℕ → ℕ → Row → Type 0
+Fields b r row =
+    Allowed (row .f1) (field b r 1) × Allowed (row .f2) (field b r 2) × Allowed (row .f3) (field b r 3) × Allowed (row .f4) (field b r 4) × Allowed (row .f5) (field b r 5)
+
+pub fits-fields : (b : List ℕ) (r k : ℕ) → kind b r ≡ k → fits b r ≡ true → Fields b r (rowOf (junctions b) k)
+unfolding fits
+fits-fields b r k e h =
+    let row = rowAt b r in
+    let suits : ℕ → Bool = λ (f : ℕ). allows (useAt row f) (field b r f) in
+    let s1 = both (suits 1) (suits 2 && (suits 3 && (suits 4 && (suits 5 && true)))) h in
+    let s2 = both (suits 2) (suits 3 && (suits 4 && (suits 5 && true))) (s1 .1) in
+    let s3 = both (suits 3) (suits 4 && (suits 5 && true)) (s2 .1) in
+    let s4 = both (suits 4) (suits 5 && true) (s3 .1) in
+    let s5 = both (suits 5) true (s4 .1) in
+    subst (λ (n : ℕ). Fields b r (rowOf (junctions b) n)) e
+    (allowed (row .f1) (field b r 1) (s1 .0), allowed (row .f2) (field b r 2) (s2 .0), allowed (row .f3) (field b r 3) (s3 .0), allowed (row .f4) (field b r 4) (s4 .0), allowed (row .f5) (field b r 5) (s5 .0))
+
+pub fields-fit : (b : List ℕ) (r k : ℕ) → kind b r ≡ k → Fields b r (rowOf (junctions b) k) → fits b r ≡ true
+unfolding fits
+fields-fit b r k e h =
+    let row = rowAt b r in
+    let g : Fields b r row = subst (λ (n : ℕ). Fields b r (rowOf (junctions b) n)) (sym e) h in
+    λ i.
+    allow (row .f1) (field b r 1) (g .0) i
+    && (allow (row .f2) (field b r 2) (g .1) i
+    && (allow (row .f3) (field b r 3) (g .2) i && (allow (row .f4) (field b r 4) (g .3) i && (allow (row .f5) (field b r 5) (g .4) i && true))))
+
+-- ---- line 1
+
+pub record Sized (b : List ℕ) : Type 0 where
+  pub least : 24 ≤ length b
+  pub most : length b ≤ 24576
+  pub whole : length b ≡ 12 * records b
+
+pub sized : (b : List ℕ) → broken1 b ≡ false → Sized b
+unfolding broken1
+sized b h =
+    let k = both (within 24 (length b) 24576) (eqb (length b) (12 * records b)) (not-false _ h) in
+    let w = within-is 24 (length b) 24576 (k .0) in
+    record { least = w .0; most = w .1; whole = eqb-true (length b) (12 * records b) (k .1) }
+
+pub size-fits : (b : List ℕ) → Sized b → broken1 b ≡ false
+unfolding broken1
+size-fits b s = ap not (and-is (within 24 (length b) 24576) (eqb (length b) (12 * records b)) (is-within 24 (length b) 24576 (s .least) (s .most)) (eq-eqb (length b) (12 * records b) (s .whole)))
+
+-- ---- line 2
+
+pub header : (b : List ℕ) → broken2 b ≡ false → Header b
+unfolding broken2 rowOf
+header b h =
+    let k = both (eqb (kind b 0) 7 && fits b 0) (ltb (junctions b) (records b)) (not-false _ h) in
+    let t = both (eqb (kind b 0) 7) (fits b 0) (k .0) in
+    let e : kind b 0 ≡ 7 = eqb-true (kind b 0) 7 (t .0) in
+    let f = fits-fields b 0 7 e (t .1) in
+    record {
+      kind-7 = e;
+      some-junctions = f .0 .0;
+      few-junctions = f .0 .1;
+      few-modes = f .1 .1;
+      unused = f .4;
+      room = ltb-true (junctions b) (records b) (k .1);
+    }
+
+pub header-fits : (b : List ℕ) → Header b → broken2 b ≡ false
+unfolding broken2 rowOf
+header-fits b h =
+    ap not
+    (and-is (eqb (kind b 0) 7 && fits b 0) (ltb (junctions b) (records b))
+    (and-is (eqb (kind b 0) 7) (fits b 0) (eq-eqb (kind b 0) 7 (h .kind-7))
+    (fields-fit b 0 7 (h .kind-7) ((h .some-junctions, h .few-junctions), (omega arith, h .few-modes), tt, tt, h .unused)))
+    (lt-ltb (junctions b) (records b) (h .room)))
+
+-- ---- line 3, kinds
+
+pub kind-low : (b : List ℕ) (r : ℕ) → r ≤ junctions b → rightKind b r ≡ mem (kind b r) (1 ∷ [])
+kind-low b r h = ap (λ (t : Bool). mem (kind b r) (kindsBy t)) (le-leb r (junctions b) h)
+
+pub kind-high : (b : List ℕ) (r : ℕ) → junctions b < r → rightKind b r ≡ mem (kind b r) (2 ∷ 3 ∷ 4 ∷ [])
+kind-high b r h = ap (λ (t : Bool). mem (kind b r) (kindsBy t)) (lt-leb r (junctions b) h)

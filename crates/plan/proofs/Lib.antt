@@ -1,0 +1,17 @@
+pub mod Lists
+pub mod Counts
+pub mod Rising
+pub mod Links
+pub mod Forms
+pub mod Literals
+pub mod Marks
+pub mod Passed
+pub mod Reached
+pub mod Chains
+pub mod Naming
+pub mod Places
+pub mod First
+pub mod Accepted
+pub mod Limits
+pub mod Claims
+pub mod Reading

@@ -1,0 +1,270 @@
+-- Laws of the lists and tests of specs/Lists.antt, grouped by what they are about:
+-- Booleans, `any` and `all`, `keep`, `map`, `joined`, `upto`, `mem`, `count`, strictly rising lists.
+-- Assumes nothing.
+use mathlib.Core.Path.{_≡_, refl, sym, _∙_, ap, subst}
+use mathlib.Core.Logic.{_⊎_, inl, inr}
+use mathlib.Core.Bool.{Bool, true, false, not, _&&_, _||_, true≢false}
+use Prim.Native.Nat.{ℕ, zero, suc, _+_, _-_, _≤_, _<_}
+use mathlib.Core.List.{List, [], _∷_, _++_, map, List·Memᴰ, List·Memᴰ·head, List·Memᴰ·tail, List·Memᴰ·not-nil, List·Memᴰ·cases-cons, List·Memᴰ·append-cases, Memᴰ·append-left, Memᴰ·append-right, Memᴰ·cast, append-assoc}
+use native.Mathlib.Omega.{arith}
+use native.Mathlib.Nat.{eq-or-lt-of-le}
+use native.Mathlib.Numerals.{add-one}
+use lib.ListN.{length}
+use lib.Dec.{eqb, leb, ltb}
+use borrow.Author.Tests.{eqb-true, eqb-false, eq-eqb, ne-eqb, ltb-true, ltb-false, le-leb, lt-leb}
+use Rattle.plan.specs.Lists.{any, all, kept, keep, counted, count, mem, joined, run, upto}
+
+-- ---- Booleans
+
+pub test : (b : Bool) → (b ≡ true) ⊎ (b ≡ false)
+test true = inl refl
+test false = inr refl
+
+pub both : (a b : Bool) → (a && b) ≡ true → (a ≡ true) × (b ≡ true)
+both true b h = (refl, h)
+both false b h = absurd (true≢false (sym h))
+
+pub and-is : (a b : Bool) → a ≡ true → b ≡ true → (a && b) ≡ true
+and-is a b p q = λ i. p i && q i
+
+pub neither : (a b : Bool) → (a || b) ≡ false → (a ≡ false) × (b ≡ false)
+neither true b h = absurd (true≢false h)
+neither false b h = (refl, h)
+
+pub or-is : (a b : Bool) → a ≡ false → b ≡ false → (a || b) ≡ false
+or-is a b p q = λ i. p i || q i
+
+pub either : (a b : Bool) → (a || b) ≡ true → (a ≡ true) ⊎ (b ≡ true)
+either true b h = inl refl
+either false b h = inr h
+
+pub never : {b : Bool} → b ≡ true → b ≡ false → ⊥
+never p q = true≢false (sym p ∙ q)
+
+pub leb-not : (a b : ℕ) → leb a b ≡ not (ltb b a)
+leb-not a b = go (test (ltb b a))
+  where
+    go : (ltb b a ≡ true) ⊎ (ltb b a ≡ false) → leb a b ≡ not (ltb b a)
+    go (inl t) = lt-leb a b (ltb-true b a t) ∙ sym (ap not t)
+    go (inr t) = le-leb a b (ltb-false b a t) ∙ sym (ap not t)
+
+-- ---- any and all
+
+module _ {A : Type 0} (f : A → Bool) where
+  pub all-in : {a : A} (xs : List A) → all f xs ≡ true → List·Memᴰ a xs → f a ≡ true
+  all-in [] h m = absurd (List·Memᴰ·not-nil m)
+  all-in {a} (x ∷ xs) h m = go (List·Memᴰ·cases-cons m) (all-in xs (both (f x) (all f xs) h .1))
+    where
+      go : (a ≡ x) ⊎ List·Memᴰ a xs → (List·Memᴰ a xs → f a ≡ true) → f a ≡ true
+      go (inl e) below = ap f e ∙ both (f x) (all f xs) h .0
+      go (inr k) below = below k
+
+  pub in-all : (xs : List A) → ((a : A) → List·Memᴰ a xs → f a ≡ true) → all f xs ≡ true
+  in-all [] h = refl
+  in-all (x ∷ xs) h = and-is (f x) (all f xs) (h x (List·Memᴰ·head refl)) (in-all xs (λ a m. h a (List·Memᴰ·tail m)))
+
+  pub any-none : {a : A} (xs : List A) → any f xs ≡ false → List·Memᴰ a xs → f a ≡ false
+  any-none [] h m = absurd (List·Memᴰ·not-nil m)
+  any-none {a} (x ∷ xs) h m = go (List·Memᴰ·cases-cons m) (any-none xs (neither (f x) (any f xs) h .1))
+    where
+      go : (a ≡ x) ⊎ List·Memᴰ a xs → (List·Memᴰ a xs → f a ≡ false) → f a ≡ false
+      go (inl e) below = ap f e ∙ neither (f x) (any f xs) h .0
+      go (inr k) below = below k
+
+  pub none-any : (xs : List A) → ((a : A) → List·Memᴰ a xs → f a ≡ false) → any f xs ≡ false
+  none-any [] h = refl
+  none-any (x ∷ xs) h = or-is (f x) (any f xs) (h x (List·Memᴰ·head refl)) (none-any xs (λ a m. h a (List·Memᴰ·tail m)))
+
+  pub in-any : {a : A} (xs : List A) → List·Memᴰ a xs → f a ≡ true → any f xs ≡ true
+  in-any xs m h = go (test (any f xs))
+    where
+      go : (any f xs ≡ true) ⊎ (any f xs ≡ false) → any f xs ≡ true
+      go (inl t) = t
+      go (inr t) = absurd (never h (any-none xs t m))
+
+  pub any-some : (xs : List A) → any f xs ≡ true → (a : A) × List·Memᴰ a xs × (f a ≡ true)
+  any-some [] h = absurd (true≢false (sym h))
+  any-some (x ∷ xs) h = go (test (f x)) (either (f x) (any f xs) h) (any-some xs)
+    where
+      Out : List A → Type 0
+      Out ys = (a : A) × List·Memᴰ a ys × (f a ≡ true)
+
+      go : (f x ≡ true) ⊎ (f x ≡ false) → (f x ≡ true) ⊎ (any f xs ≡ true) → (any f xs ≡ true → Out xs) → Out (x ∷ xs)
+      go (inl t) k below = (x, List·Memᴰ·head refl, t)
+      go (inr t) (inl k) below = absurd (never k t)
+      go (inr t) (inr k) below = let r = below k in (r .0, List·Memᴰ·tail (r .1), r .2)
+
+  pub any-append : (xs ys : List A) → any f (xs ++ ys) ≡ (any f xs || any f ys)
+  any-append [] ys = refl
+  any-append (x ∷ xs) ys = go (f x) (any-append xs ys)
+    where
+      go : (t : Bool) → any f (xs ++ ys) ≡ (any f xs || any f ys) → (t || any f (xs ++ ys)) ≡ ((t || any f xs) || any f ys)
+      go true e = refl
+      go false e = e
+
+-- two tests that agree on the elements
+pub any-cong : {A : Type 0} (f g : A → Bool) (xs : List A) → ((a : A) → List·Memᴰ a xs → f a ≡ g a) → any f xs ≡ any g xs
+any-cong f g [] h = refl
+any-cong f g (x ∷ xs) h = λ i. h x (List·Memᴰ·head refl) i || any-cong f g xs (λ a m. h a (List·Memᴰ·tail m)) i
+
+-- ---- keep
+
+pub in-keep : {A : Type 0} (f : A → Bool) {a : A} (xs : List A) → List·Memᴰ a xs → f a ≡ true → List·Memᴰ a (keep f xs)
+in-keep f [] m h = absurd (List·Memᴰ·not-nil m)
+in-keep f {a} (x ∷ xs) m h = go (f x) refl (List·Memᴰ·cases-cons m) (λ k. in-keep f xs k h)
+  where
+    go : (t : Bool) → f x ≡ t → (a ≡ x) ⊎ List·Memᴰ a xs → (List·Memᴰ a xs → List·Memᴰ a (keep f xs)) → List·Memᴰ a (kept t x (keep f xs))
+    go true e (inl q) below = List·Memᴰ·head q
+    go true e (inr k) below = List·Memᴰ·tail (below k)
+    go false e (inl q) below = absurd (never (ap f (sym q) ∙ h) e)
+    go false e (inr k) below = below k
+
+pub keep-in : {A : Type 0} (f : A → Bool) {a : A} (xs : List A) → List·Memᴰ a (keep f xs) → List·Memᴰ a xs × (f a ≡ true)
+keep-in f [] m = absurd (List·Memᴰ·not-nil m)
+keep-in f {a} (x ∷ xs) m = go (f x) refl m (keep-in f xs)
+  where
+    later : List·Memᴰ a xs × (f a ≡ true) → List·Memᴰ a (x ∷ xs) × (f a ≡ true)
+    later k = (List·Memᴰ·tail (k .0), k .1)
+
+    first : f x ≡ true → (a ≡ x) ⊎ List·Memᴰ a (keep f xs) → (List·Memᴰ a (keep f xs) → List·Memᴰ a xs × (f a ≡ true)) → List·Memᴰ a (x ∷ xs) × (f a ≡ true)
+    first e (inl q) below = (List·Memᴰ·head q, ap f q ∙ e)
+    first e (inr k) below = later (below k)
+
+    go : (t : Bool) → f x ≡ t → List·Memᴰ a (kept t x (keep f xs)) → (List·Memᴰ a (keep f xs) → List·Memᴰ a xs × (f a ≡ true)) → List·Memᴰ a (x ∷ xs) × (f a ≡ true)
+    go true e k below = first e (List·Memᴰ·cases-cons k) below
+    go false e k below = later (below k)
+
+-- ---- map and joined
+
+pub in-map : {A B : Type 0} (f : A → B) {a : A} {xs : List A} → List·Memᴰ a xs → List·Memᴰ (f a) (map f xs)
+in-map f (List·Memᴰ·head e) = List·Memᴰ·head (ap f e)
+in-map f (List·Memᴰ·tail m) = List·Memᴰ·tail (in-map f m)
+
+pub map-in : {A B : Type 0} (f : A → B) {b : B} (xs : List A) → List·Memᴰ b (map f xs) → (a : A) × List·Memᴰ a xs × (b ≡ f a)
+map-in f [] m = absurd (List·Memᴰ·not-nil m)
+map-in {A} f {b} (x ∷ xs) m = go (List·Memᴰ·cases-cons m) (map-in f xs)
+  where
+    go : (b ≡ f x) ⊎ List·Memᴰ b (map f xs) → (List·Memᴰ b (map f xs) → (a : A) × List·Memᴰ a xs × (b ≡ f a)) → (a : A) × List·Memᴰ a (x ∷ xs) × (b ≡ f a)
+    go (inl e) below = (x, List·Memᴰ·head refl, e)
+    go (inr k) below = let r = below k in (r .0, List·Memᴰ·tail (r .1), r .2)
+
+pub in-joined : {A B : Type 0} (f : A → List B) {a : A} {b : B} {xs : List A} → List·Memᴰ a xs → List·Memᴰ b (f a) → List·Memᴰ b (joined f xs)
+in-joined f {b = b} (List·Memᴰ·head {x} {xs} e) m = Memᴰ·append-left (joined f xs) (subst (λ c. List·Memᴰ b (f c)) e m)
+in-joined f (List·Memᴰ·tail {x} {xs} k) m = Memᴰ·append-right (f x) (in-joined f k m)
+
+pub joined-in : {A B : Type 0} (f : A → List B) {b : B} (xs : List A) → List·Memᴰ b (joined f xs) → (a : A) × List·Memᴰ a xs × List·Memᴰ b (f a)
+joined-in f [] m = absurd (List·Memᴰ·not-nil m)
+joined-in {A} f {b} (x ∷ xs) m = go (List·Memᴰ·append-cases (f x) m) (joined-in f xs)
+  where
+    go : List·Memᴰ b (f x) ⊎ List·Memᴰ b (joined f xs) → (List·Memᴰ b (joined f xs) → (a : A) × List·Memᴰ a xs × List·Memᴰ b (f a)) → (a : A) × List·Memᴰ a (x ∷ xs) × List·Memᴰ b (f a)
+    go (inl k) below = (x, List·Memᴰ·head refl, k)
+    go (inr k) below = let r = below k in (r .0, List·Memᴰ·tail (r .1), r .2)
+
+-- ---- upto
+
+pub upto-step : (lo hi : ℕ) → lo < hi → upto lo hi ≡ lo ∷ upto (lo + 1) hi
+upto-step lo hi h =
+    let e : hi - lo ≡ suc (hi - (lo + 1)) = omega arith in
+    ap (run lo) e ∙ ap (λ (k : ℕ). lo ∷ run k (hi - (lo + 1))) (sym (add-one lo))
+
+pub upto-end : (lo hi : ℕ) → hi ≤ lo → upto lo hi ≡ []
+upto-end lo hi h = let e : hi - lo ≡ 0 = omega arith in ap (run lo) e
+
+in-run : (i n r : ℕ) → i ≤ r → r < i + n → List·Memᴰ r (run i n)
+in-run i zero r l u = absurd (omega arith)
+in-run i (suc n) r l u = go (eq-or-lt-of-le l) (λ k. in-run (suc i) n r k (omega arith))
+  where
+    go : (i ≡ r) ⊎ (i < r) → (i < r → List·Memᴰ r (run (suc i) n)) → List·Memᴰ r (run i (suc n))
+    go (inl e) below = List·Memᴰ·head (sym e)
+    go (inr k) below = List·Memᴰ·tail (below k)
+
+run-in : (i n r : ℕ) → List·Memᴰ r (run i n) → (i ≤ r) × (r < i + n)
+run-in i zero r m = absurd (List·Memᴰ·not-nil m)
+run-in i (suc n) r m = go (List·Memᴰ·cases-cons m) (run-in (suc i) n r)
+  where
+    go : (r ≡ i) ⊎ List·Memᴰ r (run (suc i) n) → (List·Memᴰ r (run (suc i) n) → (suc i ≤ r) × (r < suc i + n)) → (i ≤ r) × (r < i + suc n)
+    go (inl e) below = (omega arith, omega arith)
+    go (inr k) below = let h = below k in (omega (arith, h .0), omega (arith, h .1))
+
+pub in-upto : (lo hi r : ℕ) → lo ≤ r → r < hi → List·Memᴰ r (upto lo hi)
+in-upto lo hi r l u = in-run lo (hi - lo) r l (omega arith)
+
+pub upto-in : (lo hi r : ℕ) → List·Memᴰ r (upto lo hi) → (lo ≤ r) × (r < hi)
+upto-in lo hi r m = let h = run-in lo (hi - lo) r m in (h .0, omega (arith, h .0, h .1))
+
+-- ---- mem
+
+pub in-mem : {n : ℕ} (xs : List ℕ) → List·Memᴰ n xs → mem n xs ≡ true
+in-mem {n} xs m = in-any (eqb n) xs m (eq-eqb n n refl)
+
+pub mem-in : {n : ℕ} (xs : List ℕ) → mem n xs ≡ true → List·Memᴰ n xs
+mem-in {n} xs h = let r = any-some (eqb n) xs h in Memᴰ·cast (eqb-true n (r .0) (r .2)) (r .1)
+
+-- ---- count
+
+module _ {A : Type 0} (f : A → Bool) where
+  pub count-append : (xs ys : List A) → count f (xs ++ ys) ≡ count f xs + count f ys
+  count-append [] ys = omega arith
+  count-append (x ∷ xs) ys = go (f x) (count-append xs ys)
+    where
+      go : (t : Bool) → count f (xs ++ ys) ≡ count f xs + count f ys → counted t (count f (xs ++ ys)) ≡ counted t (count f xs) + count f ys
+      go true e = omega arith
+      go false e = e
+
+  pub count-pos : {a : A} (xs : List A) → List·Memᴰ a xs → f a ≡ true → 1 ≤ count f xs
+  count-pos [] m h = absurd (List·Memᴰ·not-nil m)
+  count-pos {a} (x ∷ xs) m h = go (f x) refl (List·Memᴰ·cases-cons m) (λ k. count-pos xs k h)
+    where
+      go : (t : Bool) → f x ≡ t → (a ≡ x) ⊎ List·Memᴰ a xs → (List·Memᴰ a xs → 1 ≤ count f xs) → 1 ≤ counted t (count f xs)
+      go true e k below = omega arith
+      go false e (inl q) below = absurd (never (ap f (sym q) ∙ h) e)
+      go false e (inr k) below = below k
+
+  pub count-some : (xs : List A) → 1 ≤ count f xs → (a : A) × List·Memᴰ a xs × (f a ≡ true)
+  count-some [] c = absurd (omega arith)
+  count-some (x ∷ xs) c = go (f x) refl c (count-some xs)
+    where
+      Out : List A → Type 0
+      Out ys = (a : A) × List·Memᴰ a ys × (f a ≡ true)
+
+      go : (t : Bool) → f x ≡ t → 1 ≤ counted t (count f xs) → (1 ≤ count f xs → Out xs) → Out (x ∷ xs)
+      go true e c below = (x, List·Memᴰ·head refl, e)
+      go false e c below = let k = below c in (k .0, List·Memᴰ·tail (k .1), k .2)
+
+  -- where one passes, any two that pass are equal
+  pub count-one : {a b : A} (xs : List A) → count f xs ≡ 1 → List·Memᴰ a xs → f a ≡ true → List·Memᴰ b xs → f b ≡ true → a ≡ b
+  count-one [] c m h n k = absurd (List·Memᴰ·not-nil m)
+  count-one {a} {b} (x ∷ xs) c m h n k = go (f x) refl c (List·Memᴰ·cases-cons m) (List·Memᴰ·cases-cons n) (λ e y z. count-one xs e y h z k)
+    where
+      none-left : suc (count f xs) ≡ 1 → {y : A} → List·Memᴰ y xs → f y ≡ true → ⊥
+      none-left e l g = omega (arith, count-pos xs l g)
+
+      go : (t : Bool) → f x ≡ t → counted t (count f xs) ≡ 1 → (a ≡ x) ⊎ List·Memᴰ a xs → (b ≡ x) ⊎ List·Memᴰ b xs
+          → (count f xs ≡ 1 → List·Memᴰ a xs → List·Memᴰ b xs → a ≡ b) → a ≡ b
+      go t e c (inl y) (inl z) below = y ∙ sym z
+      go true e c (inr y) z below = absurd (none-left c y h)
+      go true e c (inl y) (inr z) below = absurd (none-left c z k)
+      go false e c (inr y) (inr z) below = below c y z
+      go false e c (inl y) (inr z) below = absurd (never (ap f (sym y) ∙ h) e)
+      go false e c (inr y) (inl z) below = absurd (never (ap f (sym z) ∙ k) e)
+
+-- ---- a loop that counts r up to hi, with a test at each turn
+
+module _ (f : ℕ → Bool) (r hi : ℕ) where
+  pub any-stop : r < hi → f r ≡ true → any f (upto r hi) ≡ true
+  any-stop h t = ap (any f) (upto-step r hi h) ∙ ap (λ (b : Bool). b || any f (upto (r + 1) hi)) t
+
+  pub any-next : r < hi → f r ≡ false → any f (upto (r + 1) hi) ≡ any f (upto r hi)
+  any-next h t = sym (ap (any f) (upto-step r hi h) ∙ ap (λ (b : Bool). b || any f (upto (r + 1) hi)) t)
+
+  pub any-done : hi ≤ r → any f (upto r hi) ≡ false
+  any-done h = ap (any f) (upto-end r hi h)
+
+  pub all-stop : r < hi → f r ≡ false → all f (upto r hi) ≡ false
+  all-stop h t = ap (all f) (upto-step r hi h) ∙ ap (λ (b : Bool). b && all f (upto (r + 1) hi)) t
+
+  pub all-next : r < hi → f r ≡ true → all f (upto (r + 1) hi) ≡ all f (upto r hi)
+  all-next h t = sym (ap (all f) (upto-step r hi h) ∙ ap (λ (b : Bool). b && all f (upto (r + 1) hi)) t)
+
+  pub all-done : hi ≤ r → all f (upto r hi) ≡ true
+  all-done h = ap (all f) (upto-end r hi h)

@@ -1,0 +1,189 @@
+-- What the layers above go by: laws of an accepted plan, each stated once. Every law takes `Accepted b` first.
+--
+-- Chains, step by step; a law `..-end` for the number 0, `..-next` for a record, `..-is` for what a number on a chain is:
+--   leaving-from, belts-end, belts-next, first-belt-is, next-belt-is             the belts leaving a junction
+--   rules-from, rules-end, rules-next, first-rule-is, next-rule-is               the rules
+--   literals-end, literals-next, first-literal-is, next-literal-is               the literals of a rule
+-- Belts of the plan:
+--   belt-in, belt-of        the belts of the plan are the belt records
+--   belt-name               two belts of one name are equal
+--   belt-ends               a belt leaves a junction and leads to a higher one
+--   belt-leaving            a belt is among those leaving one junction, and that is where it leaves
+--   on-chain, one-chain     its record stands on the chain of that junction and of no other
+--   belt-low                its name is above J, below N and below 2,048
+--   belt-cost               THE BOUND of a belt's cost
+-- Rules and named belts:
+--   literal-belt, literal-mode   what a literal of a rule names
+--   named-few               at most 48; that they rise, and are exactly the belts in some rule, is in Naming.antt
+--                           (named-rises, in-named, named-of), and their places are in Places.antt
+--
+-- Assumes nothing.
+use mathlib.Core.Path.{_≡_, refl, sym, _∙_, ap, subst}
+use mathlib.Core.Logic.{_⊎_, inl, inr}
+use mathlib.Core.Bool.{Bool, true, false}
+use Prim.Native.Nat.{ℕ, zero, suc, _+_, _*_, _≤_, _<_}
+use mathlib.Core.List.{List, [], _∷_, map, List·Memᴰ}
+use native.Mathlib.Omega.{arith}
+use lib.ListN.{length, getD}
+use lib.Dec.{eqb}
+use borrow.Author.Tests.{eqb-true, eqb-false, eq-eqb}
+use Rattle.plan.specs.declared.read.BeltId.{BeltId}
+use Rattle.plan.specs.declared.read.ModeId.{ModeId}
+use Rattle.plan.specs.declared.read.Literal.{Literal}
+use Rattle.plan.specs.declared.read.Literal.the-variants.{OfBelt, OfMode}
+use Rattle.plan.specs.Records.{field, kind, junctions, modes, records, IsKind, chain}
+use Rattle.plan.specs.Plan.{Belt, Plan, planOf, leaves, beltAt, literalBy, literalAt, ruleAt, leaving, named}
+use Rattle.plan.specs.Limits.{Limits, LiteralForm, BeltForm, Rule}
+use Rattle.plan.specs.Reading.{Accepted, Bytes, IsBelt, IsRule, IsLiteral, firstBelt, nextBelt, firstRule, nextRule, firstLiteral, nextLiteral, beltsFrom, rulesFrom, literalsFrom}
+use Rattle.plan.proofs.Lists.{test, in-keep, map-in}
+use Rattle.plan.proofs.Links.{Linked}
+use Rattle.plan.proofs.Passed.{linked}
+use Rattle.plan.proofs.Chains.{above, belts, literals, chain-end, belt-step, rule-step, literal-step, first-belt, next-belt, first-rule, next-rule, first-literal, next-literal, rule-chain-in, literal-chain-in, belt-reached, leaves-is, belt-in-plan, plan-belt, leaving-chain}
+use Rattle.plan.proofs.Accepted.{accepted-passed}
+use Rattle.plan.proofs.Limits.{accepted-limits}
+
+-- ---- the numbers of literals
+
+by-belt : (t v : Bool) (n : ℕ) (e : BeltId) (w : Bool) → OfBelt e w ≡ literalBy t v n → (t ≡ true) × (e .0 ≡ n)
+by-belt true v n e w q = let k : e ≡ record { 0 = n } = cc in (refl, ap (λ (x : BeltId). x .0) k)
+by-belt false v n e w q = let z : _≡_ {A = ℕ} 0 1 = cc in absurd (omega arith)
+
+by-mode : (t v : Bool) (n : ℕ) (m : ModeId) (w : Bool) → OfMode m w ≡ literalBy t v n → (t ≡ false) × (m .0 ≡ n)
+by-mode true v n m w q = let z : _≡_ {A = ℕ} 0 1 = cc in absurd (omega arith)
+by-mode false v n m w q = let k : m ≡ record { 0 = n } = cc in (refl, ap (λ (x : ModeId). x .0) k)
+
+module _ {b : List ℕ} (ok : Accepted b) where
+  links : Linked b
+  links = linked b (accepted-passed b (ok .unrefused) .0 .0)
+
+  limits : Limits b
+  limits = accepted-limits b (ok .unrefused)
+
+  -- ---- chains
+
+  pub leaving-from : (j : ℕ) → 1 ≤ j → j ≤ junctions b → leaving (planOf b) j ≡ beltsFrom b (firstBelt b j)
+  leaving-from = leaving-chain links
+
+  pub belts-end : beltsFrom b 0 ≡ []
+  belts-end = ap (map (beltAt b)) (chain-end b)
+
+  pub belts-next : (e : ℕ) → IsBelt b e → beltsFrom b e ≡ beltAt b e ∷ beltsFrom b (nextBelt b e)
+  belts-next e o = ap (map (beltAt b)) (belt-step links e o)
+
+  pub first-belt-is : (j : ℕ) → 1 ≤ j → j ≤ junctions b → (firstBelt b j ≡ 0 → ⊥) → IsBelt b (firstBelt b j)
+  first-belt-is = first-belt links
+
+  pub next-belt-is : (e : ℕ) → IsBelt b e → (nextBelt b e ≡ 0 → ⊥) → (e < nextBelt b e) × IsBelt b (nextBelt b e)
+  next-belt-is = next-belt links
+
+  pub rules-from : planOf b .rules ≡ rulesFrom b (firstRule b)
+  unfolding planOf
+  rules-from = refl
+
+  pub rules-end : rulesFrom b 0 ≡ []
+  rules-end = ap (map (ruleAt b)) (chain-end b)
+
+  pub rules-next : (r : ℕ) → IsRule b r → rulesFrom b r ≡ literalsFrom b (firstLiteral b r) ∷ rulesFrom b (nextRule b r)
+  rules-next r o = ap (map (ruleAt b)) (rule-step links r o)
+
+  pub first-rule-is : (firstRule b ≡ 0 → ⊥) → IsRule b (firstRule b)
+  first-rule-is = first-rule links
+
+  pub next-rule-is : (r : ℕ) → IsRule b r → (nextRule b r ≡ 0 → ⊥) → (r < nextRule b r) × IsRule b (nextRule b r)
+  next-rule-is = next-rule links
+
+  pub literals-end : literalsFrom b 0 ≡ []
+  literals-end = ap (map (literalAt b)) (chain-end b)
+
+  pub literals-next : (l : ℕ) → IsLiteral b l → literalsFrom b l ≡ literalAt b l ∷ literalsFrom b (nextLiteral b l)
+  literals-next l o = ap (map (literalAt b)) (literal-step links l o)
+
+  pub first-literal-is : (r : ℕ) → IsRule b r → (firstLiteral b r ≡ 0 → ⊥) → IsLiteral b (firstLiteral b r)
+  first-literal-is = first-literal links
+
+  pub next-literal-is : (l : ℕ) → IsLiteral b l → (nextLiteral b l ≡ 0 → ⊥) → (l < nextLiteral b l) × IsLiteral b (nextLiteral b l)
+  next-literal-is = next-literal links
+
+  -- ---- belts of the plan
+
+  pub belt-in : (e : ℕ) → IsBelt b e → List·Memᴰ (beltAt b e) (planOf b .belts)
+  belt-in = belt-in-plan links
+
+  pub belt-of : (x : Belt) → List·Memᴰ x (planOf b .belts) → IsBelt b (x .name) × (x ≡ beltAt b (x .name))
+  belt-of x m =
+      let (e, o, q) = plan-belt b x m in
+      let n : x .name ≡ e = ap (λ (y : Belt). y .name) q in
+      (subst (IsBelt b) (sym n) o, q ∙ ap (beltAt b) (sym n))
+
+  pub belt-name : (x y : Belt) → List·Memᴰ x (planOf b .belts) → List·Memᴰ y (planOf b .belts) → x .name ≡ y .name → x ≡ y
+  belt-name x y m n e = belt-of x m .1 ∙ ap (beltAt b) e ∙ sym (belt-of y n .1)
+
+  pub on-chain : (e : ℕ) → IsBelt b e → (1 ≤ leaves b e) × (leaves b e ≤ junctions b) × List·Memᴰ e (chain b (firstBelt b (leaves b e)))
+  on-chain e o =
+      let (j, l, u, m) = belt-reached links e o in
+      let q = sym (leaves-is links e j l u m) in
+      (subst (λ (i : ℕ). 1 ≤ i) q l, subst (λ (i : ℕ). i ≤ junctions b) q u, subst (λ (i : ℕ). List·Memᴰ e (chain b (firstBelt b i))) q m)
+
+  pub one-chain : (e j : ℕ) → 1 ≤ j → j ≤ junctions b → List·Memᴰ e (chain b (firstBelt b j)) → j ≡ leaves b e
+  one-chain e j l u m = sym (leaves-is links e j l u m)
+
+  pub belt-ends : (x : Belt) → List·Memᴰ x (planOf b .belts) → (1 ≤ x .leaves) × (x .leaves < x .leads) × (x .leads ≤ planOf b .junctions)
+  unfolding planOf
+  belt-ends x m =
+      let all = limits in
+      let (o, q) = belt-of x m in
+      let l : 1 ≤ x .leaves = subst (λ (y : Belt). 1 ≤ y .leaves) (sym q) (on-chain (x .name) o .0) in
+      let form = go (all .kinds .high (x .name) (above links belts (x .name) o) (o .0)) (o .1) in
+      (l, all .higher x m, subst (λ (y : Belt). y .leads ≤ junctions b) (sym q) form)
+    where
+      go : BeltForm b (x .name) ⊎ (Rule b (x .name) ⊎ LiteralForm b (x .name)) → kind b (x .name) ≡ 2 → field b (x .name) 2 ≤ junctions b
+      go (inl f) k = f .leads-to
+      go (inr (inl f)) k = absurd (omega (arith, f .kind-3))
+      go (inr (inr f)) k = absurd (omega (arith, f .kind-4))
+
+  pub belt-leaving : (x : Belt) → List·Memᴰ x (planOf b .belts) → List·Memᴰ x (leaving (planOf b) (x .leaves))
+  belt-leaving x m = in-keep (λ (y : Belt). eqb (y .leaves) (x .leaves)) (planOf b .belts) m (eq-eqb (x .leaves) (x .leaves) refl)
+
+  pub belt-low : (e : ℕ) → IsBelt b e → (junctions b < e) × (e < records b) × (e < 2048)
+  belt-low e o = (above links belts e o, o .0, omega (arith, o .0, limits .sizes .few))
+
+  pub belt-cost : Bytes b → (e : ℕ) → beltAt b e .cost < 65536
+  belt-cost bytes e = omega (arith, bytes (12 * e + 2 * 3), bytes (12 * e + 2 * 3 + 1))
+
+  -- ---- rules
+
+  -- a literal of a rule, at its record
+  literal-at : (rule : List Literal) → List·Memᴰ rule (planOf b .rules) → (x : Literal) → List·Memᴰ x rule → (l : ℕ) × IsLiteral b l × (x ≡ literalAt b l)
+  unfolding planOf
+  literal-at rule m x k =
+      let (r, n, q) = map-in (ruleAt b) (chain b (firstRule b)) m in
+      let (l, i, s) = map-in (literalAt b) (chain b (firstLiteral b r)) (subst (List·Memᴰ x) q k) in
+      (l, literal-chain-in links r l (rule-chain-in links r n) i, s)
+
+  pub literal-belt : (rule : List Literal) → List·Memᴰ rule (planOf b .rules) → (e : BeltId) (wanted : Bool) → List·Memᴰ (OfBelt e wanted) rule → IsBelt b (e .0)
+  literal-belt rule m e wanted k =
+      let (l, o, q) = literal-at rule m (OfBelt e wanted) k in
+      let (t, n) = by-belt (eqb (field b l 3) 0) (eqb (field b l 2) 1) (field b l 4) e wanted q in
+      subst (IsBelt b) (sym n) (limits .literals l (o .0) (o .1) .belt (eqb-true (field b l 3) 0 t))
+
+  pub literal-mode : (rule : List Literal) → List·Memᴰ rule (planOf b .rules) → (m : ModeId) (wanted : Bool) → List·Memᴰ (OfMode m wanted) rule → (1 ≤ m .0) × (m .0 ≤ planOf b .modes)
+  unfolding planOf
+  literal-mode rule i m wanted k =
+      let all = limits in
+      let (l, o, q) = literal-at rule i (OfMode m wanted) k in
+      let (t, n) = by-mode (eqb (field b l 3) 0) (eqb (field b l 2) 1) (field b l 4) m wanted q in
+      let form = go l (all .kinds .high l (above links literals l o) (o .0)) (o .1) in
+      let one = one-of (field b l 3) form (eqb-false (field b l 3) 0 t) in
+      subst (λ (x : ℕ). (1 ≤ x) × (x ≤ modes b)) (sym n) (all .literals l (o .0) (o .1) .mode one)
+    where
+      go : (l : ℕ) → BeltForm b l ⊎ (Rule b l ⊎ LiteralForm b l) → kind b l ≡ 4 → field b l 3 ≤ 1
+      go l (inl f) z = absurd (omega (arith, f .kind-2))
+      go l (inr (inl f)) z = absurd (omega (arith, f .kind-3))
+      go l (inr (inr f)) z = f .sort
+
+      one-of : (n : ℕ) → n ≤ 1 → (n ≡ 0 → ⊥) → n ≡ 1
+      one-of zero u d = absurd (d refl)
+      one-of (suc n) u d = omega arith
+
+  pub named-few : length (named (planOf b)) ≤ 48
+  named-few = limits .few-named

@@ -1,0 +1,34 @@
+-- What is claimed of the plan check, as types; proofs/Claims.antt proves each. The contract of `check::check` says that its answer's
+-- number is `refusal` of the bytes, for any bytes; these say what that number means.
+--
+--   Unbroken ls b     b breaks no line of ls
+--   FirstIn ls b n    n is the number of the first line of ls that b breaks
+--   FirstClaim        the number is n exactly when n is that of the first broken line, and 0 exactly when none is broken
+--   LimitsClaim       nothing is refused exactly when the published limits hold
+--
+-- Both are about ALL lists of bytes. Assumes nothing.
+use mathlib.Core.Path.{_≡_}
+use mathlib.Core.Bool.{true, false}
+use mathlib.Core.Logic.{_⊎_, _↔_}
+use Prim.Native.Nat.{ℕ}
+use mathlib.Core.List.{List, _∷_, _++_, List·Memᴰ}
+use Rattle.plan.specs.Refusals.{Line, planLines, refusal}
+use Rattle.plan.specs.Limits.{Limits}
+
+abbrev pub Unbroken : List Line → List ℕ → Type 0
+Unbroken ls b = (l : Line) → List·Memᴰ l ls → l .broken b ≡ false
+
+pub record FirstIn (ls : List Line) (b : List ℕ) (n : ℕ) : Type 0 where
+  pub before : List Line
+  pub line : Line
+  pub after : List Line
+  pub split : ls ≡ before ++ line ∷ after
+  pub number : line .number ≡ n
+  pub broken : line .broken b ≡ true
+  pub unbroken : Unbroken before b
+
+abbrev pub FirstClaim : Type 0
+FirstClaim = (b : List ℕ) (n : ℕ) → (refusal b ≡ n) ↔ (((n ≡ 0) × Unbroken planLines b) ⊎ FirstIn planLines b n)
+
+abbrev pub LimitsClaim : Type 0
+LimitsClaim = (b : List ℕ) → Limits b ↔ (refusal b ≡ 0)

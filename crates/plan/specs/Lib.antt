@@ -1,0 +1,9 @@
+pub mod Lists
+pub mod Records
+pub mod Plan
+pub mod Refusals
+pub mod Limits
+pub mod Claims
+pub mod Reading
+pub mod Marks
+pub mod Examples

@@ -1,0 +1,99 @@
+-- The published limits, in the positive words of paper 01's "Plan bytes": what a plan has to be.
+-- Nothing here goes by the refusal table or by its lines; that the two agree is a theorem (proofs/Claims.antt).
+--
+--   Sizes b         a run of N 12-byte records, at most 2,048
+--   Header b        record 0
+--   Junction, BeltForm, Rule, LiteralForm b r
+--                   record r is one of that kind, with what the paper says of its fields
+--   Kinds b         records 1 to J are junctions, those above are belts, rules and literals
+--   Rising b        "an index in a chain or at its head is larger than that of the record holding it", and leads to its kind
+--   reached b       every record met when the chain indices are followed from records 0 to J, as often as it is met
+--   Limits b        all of it
+--
+-- Assumes nothing.
+use Prim.Native.Nat.{ℕ, zero, suc, _*_, _≤_, _<_}
+use mathlib.Core.Path.{_≡_}
+use mathlib.Core.Logic.{_⊎_}
+use mathlib.Core.List.{List, [], _∷_, List·Memᴰ}
+use lib.ListN.{length}
+use lib.Dec.{eqb}
+use Rattle.plan.specs.Lists.{count, joined, upto}
+use Rattle.plan.specs.Records.{field, kind, junctions, modes, records, Link, linksAt}
+use Rattle.plan.specs.Plan.{Belt, Plan, planOf, named}
+
+pub record Sizes (b : List ℕ) : Type 0 where
+  pub whole : length b ≡ 12 * records b
+  pub few : records b ≤ 2048
+
+pub record Header (b : List ℕ) : Type 0 where
+  pub kind-7 : kind b 0 ≡ 7
+  pub some-junctions : 1 ≤ junctions b
+  pub few-junctions : junctions b ≤ 256
+  pub few-modes : modes b ≤ 10
+  pub unused : field b 0 5 ≡ 0
+  pub room : junctions b < records b
+
+pub record Junction (b : List ℕ) (r : ℕ) : Type 0 where
+  pub kind-1 : kind b r ≡ 1
+  pub zero-2 : field b r 2 ≡ 0
+  pub zero-3 : field b r 3 ≡ 0
+  pub zero-4 : field b r 4 ≡ 0
+  pub zero-5 : field b r 5 ≡ 0
+
+pub record BeltForm (b : List ℕ) (r : ℕ) : Type 0 where
+  pub kind-2 : kind b r ≡ 2
+  pub leads-from : 1 ≤ field b r 2
+  pub leads-to : field b r 2 ≤ junctions b
+  pub zero-4 : field b r 4 ≡ 0
+  pub zero-5 : field b r 5 ≡ 0
+
+pub record Rule (b : List ℕ) (r : ℕ) : Type 0 where
+  pub kind-3 : kind b r ≡ 3
+  pub zero-3 : field b r 3 ≡ 0
+  pub zero-4 : field b r 4 ≡ 0
+  pub zero-5 : field b r 5 ≡ 0
+
+pub record LiteralForm (b : List ℕ) (r : ℕ) : Type 0 where
+  pub kind-4 : kind b r ≡ 4
+  pub wanted : field b r 2 ≤ 1
+  pub sort : field b r 3 ≤ 1
+  pub zero-5 : field b r 5 ≡ 0
+
+pub record Kinds (b : List ℕ) : Type 0 where
+  pub low : (r : ℕ) → 1 ≤ r → r ≤ junctions b → Junction b r
+  pub high : (r : ℕ) → junctions b < r → r < records b → BeltForm b r ⊎ (Rule b r ⊎ LiteralForm b r)
+
+-- the index i, held by record r, is 0 or that of a later record of kind k
+abbrev pub Leads : List ℕ → ℕ → ℕ → ℕ → Type 0
+Leads b r i k = (i ≡ 0 → ⊥) → (r < i) × (i < records b) × (kind b i ≡ k)
+
+pub record Rising (b : List ℕ) : Type 0 where
+  pub first-rule : Leads b 0 (field b 0 3) 3
+  pub first-belt : (r : ℕ) → r < records b → kind b r ≡ 1 → Leads b r (field b r 1) 2
+  pub next-belt : (r : ℕ) → r < records b → kind b r ≡ 2 → Leads b r (field b r 1) 2
+  pub next-rule : (r : ℕ) → r < records b → kind b r ≡ 3 → Leads b r (field b r 1) 3
+  pub first-literal : (r : ℕ) → r < records b → kind b r ≡ 3 → Leads b r (field b r 2) 4
+  pub next-literal : (r : ℕ) → r < records b → kind b r ≡ 4 → Leads b r (field b r 1) 4
+
+-- the records met from record i on, in at most n links: each that a link of i leads to, and those met from it
+abbrev pub met : List ℕ → ℕ → ℕ → List ℕ
+met b zero i = []
+met b (suc n) i = joined (λ (l : Link). l .index ∷ met b n (l .index)) (linksAt b i)
+
+unfoldable pub reached : List ℕ → List ℕ
+reached b = joined (met b (records b)) (upto 0 (suc (junctions b)))
+
+-- a literal names a belt record, or a mode from 1 to M
+pub record Names (b : List ℕ) (l : ℕ) : Type 0 where
+  pub belt : field b l 3 ≡ 0 → (field b l 4 < records b) × (kind b (field b l 4) ≡ 2)
+  pub mode : field b l 3 ≡ 1 → (1 ≤ field b l 4) × (field b l 4 ≤ modes b)
+
+pub record Limits (b : List ℕ) : Type 0 where
+  pub sizes : Sizes b
+  pub header : Header b
+  pub kinds : Kinds b
+  pub rising : Rising b
+  pub once : (r : ℕ) → junctions b < r → r < records b → count (eqb r) (reached b) ≡ 1
+  pub higher : (e : Belt) → List·Memᴰ e (planOf b .belts) → e .leaves < e .leads
+  pub literals : (l : ℕ) → l < records b → kind b l ≡ 4 → Names b l
+  pub few-named : length (named (planOf b)) ≤ 48

@@ -1,0 +1,60 @@
+-- Lists and Boolean tests over them, in the form in which they compute.
+--
+--   any f xs      some element of xs passes the test f
+--   all f xs      every element passes
+--   keep f xs     the elements that pass, in their order
+--   count f xs    how many pass
+--   mem n xs      the number n is among xs
+--   joined f xs   the lists f x, for x in xs, one after the other
+--   upto lo hi    the numbers lo, lo + 1, .. below hi
+--   within a n z  a ≤ n ≤ z
+--
+-- Not here: laws about them (proofs/Lists.antt). Assumes nothing.
+use Prim.Native.Nat.{ℕ, zero, suc, _+_, _-_}
+use mathlib.Core.Bool.{Bool, true, false, _&&_, _||_}
+use mathlib.Core.List.{List, [], _∷_, _++_}
+use lib.Dec.{eqb, leb}
+
+abbrev pub any : {A : Type 0} → (A → Bool) → List A → Bool
+any f [] = false
+any f (x ∷ xs) = f x || any f xs
+
+abbrev pub all : {A : Type 0} → (A → Bool) → List A → Bool
+all f [] = true
+all f (x ∷ xs) = f x && all f xs
+
+-- x in front of xs where the test passed
+abbrev pub kept : {A : Type 0} → Bool → A → List A → List A
+kept true x xs = x ∷ xs
+kept false x xs = xs
+
+abbrev pub keep : {A : Type 0} → (A → Bool) → List A → List A
+keep f [] = []
+keep f (x ∷ xs) = kept (f x) x (keep f xs)
+
+-- one more where the test passed
+abbrev pub counted : Bool → ℕ → ℕ
+counted true n = suc n
+counted false n = n
+
+abbrev pub count : {A : Type 0} → (A → Bool) → List A → ℕ
+count f [] = 0
+count f (x ∷ xs) = counted (f x) (count f xs)
+
+abbrev pub mem : ℕ → List ℕ → Bool
+mem n xs = any (eqb n) xs
+
+abbrev pub joined : {A B : Type 0} → (A → List B) → List A → List B
+joined f [] = []
+joined f (x ∷ xs) = f x ++ joined f xs
+
+-- n numbers from i on
+abbrev pub run : ℕ → ℕ → List ℕ
+run i zero = []
+run i (suc n) = i ∷ run (suc i) n
+
+abbrev pub upto : ℕ → ℕ → List ℕ
+upto lo hi = run lo (hi - lo)
+
+abbrev pub within : ℕ → ℕ → ℕ → Bool
+within a n z = leb a n && leb n z

@@ -1,0 +1,113 @@
+// Line 4 of the refusal table: every chain index leads to a later record of the right kind, and every record above the
+// junctions is reached once. Each link is followed once; an array marks where the links lead.
+use crate::record;
+use crate::table;
+use crate::table::Use;
+ghost use mathlib.Core.Path.{_≡_};
+ghost use mathlib.Core.Bool.{not};
+ghost use Prim.Native.Nat.{_+_, _*_, _<_, _≤_};
+ghost use lib.ListN.{length};
+ghost use Rattle.plan.specs.Lists.{any, upto};
+ghost use Rattle.plan.specs.Records.{records, linkTo, linkBy, linksAt, links};
+ghost use Rattle.plan.specs.Refusals.{broken4, Passed2};
+ghost use Rattle.plan.specs.Marks.{bump, markedOnce, Followed};
+
+// The mark of a record that is met once more: 0 not met, 1 met once, 2 met more than once.
+fn bump(mark: u8) -> u8
+    ensures { λ v. ⌜ v ≡ bump mark ⌝ }
+{
+    if mark == 0 { 1 } else { 2 }
+}
+
+// Whether the chain index i, held by record r, leads astray from a record of the kind wanted; marks the record that it leads to.
+fn follow_index(p: &[u8], seen: &mut [u8], n: usize, r: usize, i: usize, want: u16) -> bool
+    requires { ⌜ (n ≡ records (now p)) × (12 * n ≤ length (now p)) × (n ≤ length (now seen)) ⌝ }
+    ensures { λ v. ⌜ Followed (now (p .entry)) (linkTo r i want) (now (seen .entry)) (now (seen .exit)) v ⌝ }
+{
+    if i == 0 {
+        return false;
+    }
+    if n <= i {
+        return true;
+    }
+    if i <= r {
+        return true;
+    }
+    if record::field(p, i, 0) != want {
+        return true;
+    }
+    seen[i] = bump(seen[i]);
+    false
+}
+
+// Whether the value v of a field of this use, held by record r, leads astray; marks the record that it leads to.
+fn follow(p: &[u8], seen: &mut [u8], n: usize, r: usize, v: usize, u: Use) -> bool
+    requires { ⌜ (n ≡ records (now p)) × (12 * n ≤ length (now p)) × (n ≤ length (now seen)) ⌝ }
+    ensures { λ t. ⌜ Followed (now (p .entry)) (linkBy u r v) (now (seen .entry)) (now (seen .exit)) t ⌝ }
+{
+    match u {
+        Use::Any => false,
+        Use::Unused => false,
+        Use::Between(_, _) => false,
+        Use::Chain(want) => follow_index(p, seen, n, r, v, want),
+    }
+}
+
+// Whether a chain index of record r leads astray; marks the records that they lead to.
+fn follow_record(p: &[u8], seen: &mut [u8], n: usize, r: usize) -> bool
+    requires { ⌜ (n ≡ records (now p)) × (12 * n ≤ length (now p)) × (n ≤ length (now seen)) × (r < n) ⌝ }
+    ensures { λ v. ⌜ Followed (now (p .entry)) (linksAt (now (p .entry)) r) (now (seen .entry)) (now (seen .exit)) v ⌝ }
+{
+    let row = table::row_of(record::field(p, 0, 1), record::field(p, r, 0));
+    let mut f = 1;
+    while f < 6 {
+        if follow(p, seen, n, r, record::index(p, r, f), table::use_at(row, f)) {
+            return true;
+        }
+        f += 1;
+    }
+    false
+}
+
+// Whether a chain index of the plan leads astray; marks the records that they lead to.
+fn follow_all(p: &[u8], seen: &mut [u8], n: usize) -> bool
+    requires { ⌜ (n ≡ records (now p)) × (12 * n ≤ length (now p)) × (n ≤ length (now seen)) ⌝ }
+    ensures { λ v. ⌜ Followed (now (p .entry)) (links (now (p .entry))) (now (seen .entry)) (now (seen .exit)) v ⌝ }
+{
+    let mut r = 0;
+    while r < n {
+        if follow_record(p, seen, n, r) {
+            return true;
+        }
+        r += 1;
+    }
+    false
+}
+
+// Whether a record from lo on is not marked as met once.
+fn unmet(seen: &[u8], lo: usize, n: usize) -> bool
+    requires { ⌜ n ≤ length (now seen) ⌝ }
+    ensures { λ v. ⌜ v ≡ any (λ r. not (markedOnce (now (seen .entry)) r)) (upto lo n) ⌝ }
+{
+    let mut r = lo;
+    while r < n {
+        if seen[r] != 1 {
+            return true;
+        }
+        r += 1;
+    }
+    false
+}
+
+// Line 4: whether a chain index leads astray, or a record above the junctions is reached twice or never.
+pub fn wrong_chain(p: &[u8]) -> bool
+    requires { ⌜ Passed2 (now p) ⌝ }
+    ensures { λ v. ⌜ v ≡ broken4 (now (p .entry)) ⌝ }
+{
+    let n = record::records(p);
+    let mut seen = [0u8; 2048];
+    if follow_all(p, &mut seen, n) {
+        return true;
+    }
+    unmet(&seen, record::index(p, 0, 1) + 1, n)
+}

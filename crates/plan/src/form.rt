@@ -1,0 +1,96 @@
+// Lines 1 to 3 of the refusal table: the size, record 0, and each record by itself.
+use crate::record;
+use crate::record::BELT;
+use crate::record::HEADER;
+use crate::record::JUNCTION;
+use crate::record::LITERAL;
+use crate::record::RULE;
+use crate::table;
+ghost use mathlib.Core.Path.{_≡_};
+ghost use mathlib.Core.Bool.{false};
+ghost use Prim.Native.Nat.{_+_, _*_, _≤_};
+ghost use lib.ListN.{length};
+ghost use Rattle.plan.specs.Records.{field, fits};
+ghost use Rattle.plan.specs.Refusals.{broken1, broken2, broken3, rightKind, Passed2};
+
+// Line 1: whether the plan is under 24 or over 24,576 bytes, or not 12 times its count of records.
+pub fn wrong_size(p: &[u8]) -> bool
+    ensures { λ v. ⌜ v ≡ broken1 (now (p .entry)) ⌝ }
+{
+    if p.len() < 24 {
+        return true;
+    }
+    if 24576 < p.len() {
+        return true;
+    }
+    p.len() != 12 * record::records(p)
+}
+
+// Whether the unused and the ranged fields of record r are as its kind wants them.
+fn fits(p: &[u8], junctions: u16, r: usize) -> bool
+    requires { ⌜ (junctions ≡ field (now p) 0 1) × (12 * r + 12 ≤ length (now p)) ⌝ }
+    ensures { λ v. ⌜ v ≡ fits (now (p .entry)) r ⌝ }
+{
+    let row = table::row_of(junctions, record::field(p, r, 0));
+    let mut f = 1;
+    while f < 6 {
+        if !table::allows(table::use_at(row, f), record::field(p, r, f)) {
+            return false;
+        }
+        f += 1;
+    }
+    true
+}
+
+// Line 2: whether record 0 is wrong, or leaves no room for its junctions.
+pub fn wrong_header(p: &[u8]) -> bool
+    requires { ⌜ broken1 (now p) ≡ false ⌝ }
+    ensures { λ v. ⌜ v ≡ broken2 (now (p .entry)) ⌝ }
+{
+    if record::field(p, 0, 0) != HEADER {
+        return true;
+    }
+    let junctions = record::field(p, 0, 1);
+    if !fits(p, junctions, 0) {
+        return true;
+    }
+    record::field(p, 0, 4) <= junctions
+}
+
+// Whether record r is of a kind that may stand at its place.
+fn right_kind(p: &[u8], junctions: u16, r: usize) -> bool
+    requires { ⌜ (junctions ≡ field (now p) 0 1) × (12 * r + 12 ≤ length (now p)) ⌝ }
+    ensures { λ v. ⌜ v ≡ rightKind (now (p .entry)) r ⌝ }
+{
+    let kind = record::field(p, r, 0);
+    if r <= junctions as usize {
+        return kind == JUNCTION;
+    }
+    if kind == BELT {
+        return true;
+    }
+    if kind == RULE {
+        return true;
+    }
+    kind == LITERAL
+}
+
+// Line 3: whether a record above 0 is of a wrong kind, or has a wrong field.
+pub fn wrong_record(p: &[u8]) -> bool
+    requires { ⌜ Passed2 (now p) ⌝ }
+    ensures { λ v. ⌜ v ≡ broken3 (now (p .entry)) ⌝ }
+{
+    let n = record::records(p);
+    let last = record::field(p, 0, 1);
+    let mut r = 1;
+    while r < n {
+        if !right_kind(p, last, r) {
+            return true;
+        }
+        if !fits(p, last, r) {
+            return true;
+        }
+        r += 1;
+    }
+    false
+}

@@ -1,0 +1,78 @@
+// The named belts of an accepted plan: those in some rule. Their list, and the place of each belt among them.
+use crate::notes;
+use crate::read::BeltId;
+use crate::record;
+ghost use mathlib.Core.Path.{_≡_};
+ghost use Prim.Native.Nat.{_<_};
+ghost use lib.ListN.{length};
+ghost use Rattle.plan.specs.Plan.{planOf, named, listed, placesOf, placeIn};
+ghost use Rattle.plan.specs.Reading.{Accepted};
+
+// The named belts in rising order; the rest of the array is BeltId(0).
+pub struct Named {
+    pub count: usize,
+    pub belts: [BeltId; 48],
+}
+
+// The place of a belt among the named belts, counted from 0.
+pub enum Place {
+    At(usize),
+    Unnamed,
+}
+
+// The named belts of an accepted plan.
+pub fn named_belts(p: &[u8]) -> Named
+    requires { ⌜ Accepted (now p) ⌝ }
+    ensures { λ v. ⌜ (v .count ≡ length (named (planOf (now (p .entry))))) × (v .belts ≡ listed (named (planOf (now (p .entry))))) ⌝ }
+{
+    let mut marks = [0u8; 2048];
+    notes::note_named(p, &mut marks);
+    let n = record::records(p);
+    let mut belts = [BeltId(0); 48];
+    let mut count = 0;
+    let mut e = 0;
+    while e < n {
+        if marks[e] == 1 {
+            belts[count] = BeltId(e as u16);
+            count += 1;
+        }
+        e += 1;
+    }
+    Named {
+        count: count,
+        belts: belts,
+    }
+}
+
+// The places of all belts among the named belts of an accepted plan, for `place_of`.
+pub fn named_places(p: &[u8]) -> [u8; 2048]
+    requires { ⌜ Accepted (now p) ⌝ }
+    ensures { λ v. ⌜ v ≡ placesOf (named (planOf (now (p .entry)))) ⌝ }
+{
+    let mut marks = [0u8; 2048];
+    notes::note_named(p, &mut marks);
+    let n = record::records(p);
+    let mut places = [0u8; 2048];
+    let mut count: u8 = 0;
+    let mut e = 0;
+    while e < n {
+        if marks[e] == 1 {
+            count += 1;
+            places[e] = count;
+        }
+        e += 1;
+    }
+    places
+}
+
+// The place of a belt, out of the array of all places.
+pub fn place_of(places: &[u8], belt: BeltId) -> Place
+    requires { ⌜ belt .0 < length (now places) ⌝ }
+    ensures { λ v. ⌜ v ≡ placeIn (now (places .entry)) (belt .0) ⌝ }
+{
+    let code = places[belt.0 as usize];
+    if code == 0 {
+        return Place::Unnamed;
+    }
+    Place::At(code as usize - 1)
+}

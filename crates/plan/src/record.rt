@@ -1,0 +1,55 @@
+// Fields of 12-byte records (paper 01, "Plan bytes").
+ghost use mathlib.Core.Path.{_≡_};
+ghost use Prim.Native.Nat.{_+_, _*_, _<_, _≤_};
+ghost use lib.ListN.{length};
+ghost use Rattle.plan.specs.Records.{field, records};
+
+// The kinds of records, field 0.
+pub const JUNCTION: u16 = 1;
+
+pub const BELT: u16 = 2;
+
+pub const RULE: u16 = 3;
+
+pub const LITERAL: u16 = 4;
+
+pub const HEADER: u16 = 7;
+
+fn wide(x: u8) -> u16
+    ensures { λ v. ⌜ (v ≡ x) × (v < 256) ⌝ }
+{
+    x as u16
+}
+
+// Field f of record r, high byte first.
+pub fn field(p: &[u8], r: usize, f: usize) -> u16
+    requires { ⌜ (f < 6) × (12 * r + 12 ≤ length (now p)) ⌝ }
+    ensures { λ v. ⌜ v ≡ field (now (p .entry)) r f ⌝ }
+{
+    let at = 12 * r + 2 * f;
+    let high = wide(p[at]);
+    let low = wide(p[at + 1]);
+    high * 256 + low
+}
+
+fn wide16(x: u16) -> usize
+    ensures { λ v. ⌜ (v ≡ x) × (v < 65536) ⌝ }
+{
+    x as usize
+}
+
+// Field f of record r, as an index or a count.
+pub fn index(p: &[u8], r: usize, f: usize) -> usize
+    requires { ⌜ (f < 6) × (12 * r + 12 ≤ length (now p)) ⌝ }
+    ensures { λ v. ⌜ (v ≡ field (now (p .entry)) r f) × (v < 65536) ⌝ }
+{
+    wide16(field(p, r, f))
+}
+
+// N, the count of records.
+pub fn records(p: &[u8]) -> usize
+    requires { ⌜ 12 ≤ length (now p) ⌝ }
+    ensures { λ v. ⌜ (v ≡ records (now (p .entry))) × (v < 65536) ⌝ }
+{
+    index(p, 0, 4)
+}
