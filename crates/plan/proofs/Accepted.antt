@@ -5,26 +5,25 @@
 --   accepted-room, accepted-there                what the readers need of an accepted plan
 --
 -- Assumes nothing.
-use mathlib.Core.Path.{_≡_, refl, sym, _∙_, ap}
-use mathlib.Core.Logic.{_⊎_, inl, inr}
-use mathlib.Core.Bool.{Bool, true, false}
+use mathlib.Core.Path.{_≡_, refl}
+use mathlib.Core.Bool.{true, false}
 use Prim.Native.Nat.{ℕ, _+_, _*_, _≤_, _<_}
-use mathlib.Core.List.{List, [], _∷_, List·Memᴰ, List·Memᴰ·head, List·Memᴰ·tail, List·Memᴰ·not-nil, List·Memᴰ·cases-cons}
-use native.Mathlib.Omega.{arith}
+use mathlib.Core.List.{List, List·Memᴰ, List·Memᴰ·head, List·Memᴰ·tail}
 use lib.ListN.{length}
 use Rattle.plan.specs.Records.{junctions, records}
-use Rattle.plan.specs.Refusals.{broken1, broken2, broken3, broken4, broken5, broken6, broken7, Passed2, Passed4, Passed6, Line, planLines, firstBroken, refusal}
+use Rattle.plan.specs.Refusals.{broken1, broken2, broken3, broken4, broken5, broken6, broken7, Line, planLines, firstBroken, refusal}
+use Rattle.plan.specs.Inner.{Passed2, Passed4, Passed6}
 use Rattle.plan.specs.Claims.{Unbroken}
 use Rattle.plan.specs.Reading.{Accepted}
-use Rattle.plan.proofs.First.{passed, none-broken}
+use Rattle.plan.proofs.First.{passed}
 use Rattle.plan.proofs.Lists.{all-in}
-use Rattle.plan.proofs.Forms.{sized, header}
+use Rattle.plan.proofs.Forms.{there, header}
 use borrow.Author.Tests.{leb-true}
 use lib.Dec.{leb}
 
 -- no line has the number 0
-numbered : (l : Line) → List·Memᴰ l planLines → 1 ≤ l .number
-numbered l m = leb-true 1 (l .number) (all-in (λ (k : Line). leb 1 (k .number)) planLines refl m)
+numbered : (l : Line (List ℕ)) → List·Memᴰ l planLines → 1 ≤ l .number
+numbered l m = leb-true 1 (l .number) (all-in (λ (k : Line (List ℕ)). leb 1 (k .number)) planLines refl m)
 
 pub unbroken : (b : List ℕ) → refusal b ≡ 0 → Unbroken planLines b
 unfolding refusal
@@ -88,4 +87,4 @@ accepted-room {b} ok = header b (accepted-passed b (ok .unrefused) .0 .0 .0 .1) 
 
 -- a record below N is there
 pub accepted-there : {b : List ℕ} → Accepted b → (i : ℕ) → i < records b → 12 * i + 12 ≤ length b
-accepted-there {b} ok i h = let s = sized b (accepted-passed b (ok .unrefused) .0 .0 .0 .0) in omega arith
+accepted-there {b} ok = there b (accepted-passed b (ok .unrefused) .0 .0 .0 .0)

@@ -2,7 +2,6 @@
 use mathlib.Core.Path.{_≡_, sym, _∙_, subst}
 use mathlib.Core.Logic.{_⊎_, inl, inr}
 use Prim.Native.Nat.{ℕ}
-use mathlib.Core.List.{List}
 use Rattle.plan.specs.Refusals.{planLines, firstBroken, refusal}
 use Rattle.plan.specs.Claims.{Unbroken, FirstIn, FirstClaim, LimitsClaim}
 use Rattle.plan.proofs.First.{first-is, is-first, none-broken}

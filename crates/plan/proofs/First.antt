@@ -1,86 +1,87 @@
--- The first broken line of a list of lines.
+-- The first broken line of a list of lines, about things of any type.
 --
 --   first-is      what firstBroken answers: 0 and no line is broken, or the number of the first broken one
 --   is-first      and it answers that number only
+--   none-broken   it answers 0 where no line is broken
 --   passed        where it answers 0, and no line has that number, every line is unbroken
 --
 -- Assumes nothing.
-use mathlib.Core.Path.{_≡_, refl, sym, _∙_, ap, subst}
+use mathlib.Core.Path.{_≡_, refl, sym, _∙_, ap}
 use mathlib.Core.Logic.{_⊎_, inl, inr}
 use mathlib.Core.Bool.{Bool, true, false}
-use Prim.Native.Nat.{ℕ, suc, _≤_}
+use Prim.Native.Nat.{ℕ, _≤_}
 use mathlib.Core.List.{List, [], _∷_, _++_, List·Memᴰ, List·Memᴰ·head, List·Memᴰ·tail, List·Memᴰ·not-nil, List·Memᴰ·cases-cons}
 use native.Mathlib.Omega.{arith}
 use Rattle.plan.specs.Refusals.{Line, firstBroken}
 use Rattle.plan.specs.Claims.{Unbroken, FirstIn}
-use Rattle.plan.proofs.Lists.{never}
 
--- one more line in front, broken or not
-on-broken : (l : Line) (ls : List Line) (b : List ℕ) → l .broken b ≡ true → firstBroken (l ∷ ls) b ≡ l .number
-on-broken l ls b e = ap (λ (t : Bool). elim t [ true ↦ l .number | false ↦ firstBroken ls b ]) e
+module _ {A : Type 0} where
+  -- one more line in front, broken or not
+  on-broken : (l : Line A) (ls : List (Line A)) (b : A) → l .broken b ≡ true → firstBroken (l ∷ ls) b ≡ l .number
+  on-broken l ls b e = ap (λ (t : Bool). elim t [ true ↦ l .number | false ↦ firstBroken ls b ]) e
 
-on-unbroken : (l : Line) (ls : List Line) (b : List ℕ) → l .broken b ≡ false → firstBroken (l ∷ ls) b ≡ firstBroken ls b
-on-unbroken l ls b e = ap (λ (t : Bool). elim t [ true ↦ l .number | false ↦ firstBroken ls b ]) e
+  on-unbroken : (l : Line A) (ls : List (Line A)) (b : A) → l .broken b ≡ false → firstBroken (l ∷ ls) b ≡ firstBroken ls b
+  on-unbroken l ls b e = ap (λ (t : Bool). elim t [ true ↦ l .number | false ↦ firstBroken ls b ]) e
 
-more : (l : Line) (ls : List Line) (b : List ℕ) → l .broken b ≡ false → Unbroken ls b → Unbroken (l ∷ ls) b
-more l ls b e h k m = go (List·Memᴰ·cases-cons m)
-  where
-    go : (k ≡ l) ⊎ List·Memᴰ k ls → k .broken b ≡ false
-    go (inl q) = ap (λ (x : Line). x .broken b) q ∙ e
-    go (inr m) = h k m
+  more : (l : Line A) (ls : List (Line A)) (b : A) → l .broken b ≡ false → Unbroken ls b → Unbroken (l ∷ ls) b
+  more l ls b e h k m = go (List·Memᴰ·cases-cons m)
+    where
+      go : (k ≡ l) ⊎ List·Memᴰ k ls → k .broken b ≡ false
+      go (inl q) = ap (λ (x : Line A). x .broken b) q ∙ e
+      go (inr m) = h k m
 
-pub first-is : (ls : List Line) (b : List ℕ) → ((firstBroken ls b ≡ 0) × Unbroken ls b) ⊎ FirstIn ls b (firstBroken ls b)
-first-is [] b = inl (refl, λ l m. absurd (List·Memᴰ·not-nil m))
-first-is (l ∷ ls) b = go (l .broken b) refl (first-is ls b)
-  where
-    here : l .broken b ≡ true → FirstIn (l ∷ ls) b (firstBroken (l ∷ ls) b)
-    here e = record {
-      before = [];
-      line = l;
-      after = ls;
-      split = refl;
-      number = sym (on-broken l ls b e);
-      broken = e;
-      unbroken = λ k m. absurd (List·Memᴰ·not-nil m);
-    }
+  pub first-is : (ls : List (Line A)) (b : A) → ((firstBroken ls b ≡ 0) × Unbroken ls b) ⊎ FirstIn ls b (firstBroken ls b)
+  first-is [] b = inl (refl, λ l m. absurd (List·Memᴰ·not-nil m))
+  first-is (l ∷ ls) b = go (l .broken b) refl (first-is ls b)
+    where
+      here : l .broken b ≡ true → FirstIn (l ∷ ls) b (firstBroken (l ∷ ls) b)
+      here e = record {
+        before = [];
+        line = l;
+        after = ls;
+        split = refl;
+        number = sym (on-broken l ls b e);
+        broken = e;
+        unbroken = λ k m. absurd (List·Memᴰ·not-nil m);
+      }
 
-    later : l .broken b ≡ false → FirstIn ls b (firstBroken ls b) → FirstIn (l ∷ ls) b (firstBroken (l ∷ ls) b)
-    later e f = record {
-      before = l ∷ f .before;
-      line = f .line;
-      after = f .after;
-      split = ap (λ (k : List Line). l ∷ k) (f .split);
-      number = f .number ∙ sym (on-unbroken l ls b e);
-      broken = f .broken;
-      unbroken = more l (f .before) b e (f .unbroken);
-    }
+      later : l .broken b ≡ false → FirstIn ls b (firstBroken ls b) → FirstIn (l ∷ ls) b (firstBroken (l ∷ ls) b)
+      later e f = record {
+        before = l ∷ f .before;
+        line = f .line;
+        after = f .after;
+        split = ap (λ (k : List (Line A)). l ∷ k) (f .split);
+        number = f .number ∙ sym (on-unbroken l ls b e);
+        broken = f .broken;
+        unbroken = more l (f .before) b e (f .unbroken);
+      }
 
-    go : (t : Bool) → l .broken b ≡ t → ((firstBroken ls b ≡ 0) × Unbroken ls b) ⊎ FirstIn ls b (firstBroken ls b)
-        → ((firstBroken (l ∷ ls) b ≡ 0) × Unbroken (l ∷ ls) b) ⊎ FirstIn (l ∷ ls) b (firstBroken (l ∷ ls) b)
-    go true e k = inr (here e)
-    go false e (inl k) = inl (on-unbroken l ls b e ∙ k .0, more l ls b e (k .1))
-    go false e (inr k) = inr (later e k)
+      go : (t : Bool) → l .broken b ≡ t → ((firstBroken ls b ≡ 0) × Unbroken ls b) ⊎ FirstIn ls b (firstBroken ls b)
+          → ((firstBroken (l ∷ ls) b ≡ 0) × Unbroken (l ∷ ls) b) ⊎ FirstIn (l ∷ ls) b (firstBroken (l ∷ ls) b)
+      go true e k = inr (here e)
+      go false e (inl k) = inl (on-unbroken l ls b e ∙ k .0, more l ls b e (k .1))
+      go false e (inr k) = inr (later e k)
 
--- lines that are unbroken are passed over
-past : (before : List Line) (ls : List Line) (b : List ℕ) → Unbroken before b → firstBroken (before ++ ls) b ≡ firstBroken ls b
-past [] ls b h = refl
-past (l ∷ before) ls b h = on-unbroken l (before ++ ls) b (h l (List·Memᴰ·head refl)) ∙ past before ls b (λ k m. h k (List·Memᴰ·tail m))
+  -- lines that are unbroken are passed over
+  past : (before : List (Line A)) (ls : List (Line A)) (b : A) → Unbroken before b → firstBroken (before ++ ls) b ≡ firstBroken ls b
+  past [] ls b h = refl
+  past (l ∷ before) ls b h = on-unbroken l (before ++ ls) b (h l (List·Memᴰ·head refl)) ∙ past before ls b (λ k m. h k (List·Memᴰ·tail m))
 
-pub is-first : (ls : List Line) (b : List ℕ) (n : ℕ) → FirstIn ls b n → firstBroken ls b ≡ n
-is-first ls b n f =
-    ap (λ (k : List Line). firstBroken k b) (f .split)
-    ∙ past (f .before) (f .line ∷ f .after) b (f .unbroken)
-    ∙ on-broken (f .line) (f .after) b (f .broken)
-    ∙ f .number
+  pub is-first : (ls : List (Line A)) (b : A) (n : ℕ) → FirstIn ls b n → firstBroken ls b ≡ n
+  is-first ls b n f =
+      ap (λ (k : List (Line A)). firstBroken k b) (f .split)
+      ∙ past (f .before) (f .line ∷ f .after) b (f .unbroken)
+      ∙ on-broken (f .line) (f .after) b (f .broken)
+      ∙ f .number
 
-pub none-broken : (ls : List Line) (b : List ℕ) → Unbroken ls b → firstBroken ls b ≡ 0
-none-broken [] b h = refl
-none-broken (l ∷ ls) b h = on-unbroken l ls b (h l (List·Memᴰ·head refl)) ∙ none-broken ls b (λ k m. h k (List·Memᴰ·tail m))
+  pub none-broken : (ls : List (Line A)) (b : A) → Unbroken ls b → firstBroken ls b ≡ 0
+  none-broken [] b h = refl
+  none-broken (l ∷ ls) b h = on-unbroken l ls b (h l (List·Memᴰ·head refl)) ∙ none-broken ls b (λ k m. h k (List·Memᴰ·tail m))
 
-pub passed : (ls : List Line) (b : List ℕ) → ((l : Line) → List·Memᴰ l ls → 1 ≤ l .number) → firstBroken ls b ≡ 0 → Unbroken ls b
-passed [] b p e = λ l m. absurd (List·Memᴰ·not-nil m)
-passed (l ∷ ls) b p e = go (l .broken b) refl (passed ls b (λ k m. p k (List·Memᴰ·tail m)))
-  where
-    go : (t : Bool) → l .broken b ≡ t → (firstBroken ls b ≡ 0 → Unbroken ls b) → Unbroken (l ∷ ls) b
-    go true q below = let z : l .number ≡ 0 = sym (on-broken l ls b q) ∙ e in absurd (omega (arith, p l (List·Memᴰ·head refl)))
-    go false q below = more l ls b q (below (sym (on-unbroken l ls b q) ∙ e))
+  pub passed : (ls : List (Line A)) (b : A) → ((l : Line A) → List·Memᴰ l ls → 1 ≤ l .number) → firstBroken ls b ≡ 0 → Unbroken ls b
+  passed [] b p e = λ l m. absurd (List·Memᴰ·not-nil m)
+  passed (l ∷ ls) b p e = go (l .broken b) refl (passed ls b (λ k m. p k (List·Memᴰ·tail m)))
+    where
+      go : (t : Bool) → l .broken b ≡ t → (firstBroken ls b ≡ 0 → Unbroken ls b) → Unbroken (l ∷ ls) b
+      go true q below = let z : l .number ≡ 0 = sym (on-broken l ls b q) ∙ e in absurd (omega (arith, p l (List·Memᴰ·head refl)))
+      go false q below = more l ls b q (below (sym (on-unbroken l ls b q) ∙ e))

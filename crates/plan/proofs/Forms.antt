@@ -2,15 +2,15 @@
 --
 --   Allowed u v       a field of use u may hold v, as a fact; allowed, allow: the same as `allows`
 --   fits-fields       a record fits exactly when each of its five fields is allowed
---   sizes, header     what lines 1 and 2 say
+--   sized, few, there what line 1 says
+--   header            what line 2 says
 --   kind-low, kind-high
 --                     the kinds that line 3 lets stand at a place
 --
 -- Assumes nothing.
-use mathlib.Core.Path.{_≡_, refl, sym, _∙_, ap, subst}
-use mathlib.Core.Logic.{_⊎_, inl, inr, _↔_}
-use mathlib.Core.Bool.{Bool, true, false, not, _&&_, _||_}
-use Prim.Native.Nat.{ℕ, zero, suc, _+_, _*_, _≤_, _<_}
+use mathlib.Core.Path.{_≡_, refl, sym, ap, subst}
+use mathlib.Core.Bool.{Bool, true, false, not, _&&_}
+use Prim.Native.Nat.{ℕ, _+_, _*_, _≤_, _<_}
 use mathlib.Core.List.{List, [], _∷_}
 use native.Mathlib.Omega.{arith}
 use lib.ListN.{length}
@@ -19,10 +19,10 @@ use borrow.Author.Tests.{eqb-true, eq-eqb, ltb-true, lt-ltb, leb-true, le-leb, l
 use Rattle.plan.specs.declared.table.Use.{Use}
 use Rattle.plan.specs.declared.table.Use.the-variants.{Any, Unused, Between, Chain}
 use Rattle.plan.specs.declared.table.Row.{Row}
-use Rattle.plan.specs.Lists.{all, within, mem}
-use Rattle.plan.specs.Records.{field, kind, junctions, modes, records, rowOf, rowAt, useAt, allows, fields, fits}
+use Rattle.plan.specs.Lists.{within, mem}
+use Rattle.plan.specs.Records.{field, kind, junctions, records, rowOf, rowAt, useAt, allows, fits}
 use Rattle.plan.specs.Refusals.{broken1, broken2, kindsBy, rightKind}
-use Rattle.plan.specs.Limits.{Sizes, Header}
+use Rattle.plan.specs.Limits.{Header}
 use Rattle.plan.proofs.Lists.{both, and-is}
 
 -- ---- one field
@@ -93,6 +93,13 @@ sized b h =
     let k = both (within 24 (length b) 24576) (eqb (length b) (12 * records b)) (not-false _ h) in
     let w = within-is 24 (length b) 24576 (k .0) in
     record { least = w .0; most = w .1; whole = eqb-true (length b) (12 * records b) (k .1) }
+
+-- there are at most 2,048 records, and each of them is there
+pub few : (b : List ℕ) → broken1 b ≡ false → records b ≤ 2048
+few b h = let s = sized b h in omega arith
+
+pub there : (b : List ℕ) → broken1 b ≡ false → (r : ℕ) → r < records b → 12 * r + 12 ≤ length b
+there b h r l = let s = sized b h in omega arith
 
 pub size-fits : (b : List ℕ) → Sized b → broken1 b ≡ false
 unfolding broken1

@@ -1,39 +1,42 @@
 -- The published limits hold exactly when no line is broken, line by line in both directions.
 --
---   kinds-right, right-kinds     line 3 and the forms of the records
---   rising-well, well-rising     line 4's links and rising chains
---   higher-unbroken, ..          lines 5 and 6
---   limits-accepted, accepted-limits
---                                the whole
+--   kinds-unbroken, unbroken-kinds      line 3 and the forms of the records
+--   rising-well, well-rising            line 4's links and rising chains
+--   upward, chains-unbroken             line 4's pointers and reached once
+--   higher-unbroken, unbroken-higher    line 5
+--   names-unbroken, unbroken-names      line 6
+--   limits-accepted, accepted-limits    the whole
 --
 -- Assumes nothing.
 use mathlib.Core.Path.{_≡_, refl, sym, _∙_, ap, subst}
 use mathlib.Core.Logic.{_⊎_, inl, inr}
 use mathlib.Core.Bool.{Bool, true, false, not, _&&_}
-use Prim.Native.Nat.{ℕ, zero, suc, _+_, _*_, _≤_, _<_}
-use mathlib.Core.List.{List, [], _∷_, _++_, map, List·Memᴰ, List·Memᴰ·head, List·Memᴰ·append-cases, Memᴰ·append-left, Memᴰ·append-right, Memᴰ·cast}
+use Prim.Native.Nat.{ℕ, zero, suc, _≤_, _<_}
+use mathlib.Core.List.{List, [], _∷_, List·Memᴰ, List·Memᴰ·append-cases, Memᴰ·append-left, Memᴰ·append-right}
 use native.Mathlib.Omega.{arith}
 use lib.ListN.{length}
-use lib.Dec.{eqb, leb, ltb}
-use borrow.Author.Tests.{eqb-true, eq-eqb, ne-eqb, ltb-true, lt-ltb, ltb-false, le-ltb, leb-true, leb-false, lt-leb, not-false}
-use Rattle.plan.specs.Lists.{any, mem, upto, within, count}
-use Rattle.plan.specs.Records.{field, kind, junctions, modes, records, IsKind, rowOf, fits, Link, linkTo, linksAt, links, chain}
+use lib.Dec.{eqb, leb}
+use borrow.Author.Tests.{eqb-true, le-ltb, leb-true, leb-false, lt-leb}
+use Rattle.plan.specs.Lists.{mem, upto, count}
+use Rattle.plan.specs.Records.{field, kind, junctions, records, rowOf, fits, Link, linkTo, linksAt, links, chain}
 use Rattle.plan.specs.Plan.{Belt, planOf, named, beltAt}
-use Rattle.plan.specs.Refusals.{broken1, broken2, broken3, broken4, broken5, broken6, broken7, rightKind, literalFits, misnames, falls, Passed2, Passed4, refusal, pointers}
-use Rattle.plan.specs.Limits.{Sizes, Header, Junction, BeltForm, Rule, LiteralForm, Kinds, Leads, Rising, Names, reached, Limits}
-use Rattle.plan.proofs.Lists.{both, and-is, any-none, none-any, in-upto, upto-in, test}
-use Rattle.plan.proofs.Forms.{Sized, sized, size-fits, header, header-fits, fits-fields, fields-fit, kind-low, kind-high, within-is, is-within}
-use Rattle.plan.proofs.Links.{Linked, link, linksAt-7, linksAt-1, linksAt-2, linksAt-3, linksAt-4, in-linkTo, linkTo-in, in-links, links-in}
-use Rattle.plan.proofs.Passed.{right, wrong-none, astray-none, linked}
+use Rattle.plan.specs.Refusals.{broken3, broken4, broken5, broken6, broken7, rightKind, literalFits, misnames, backward, refusal}
+use Rattle.plan.specs.Inner.{Passed2, Passed4}
+use Rattle.plan.specs.Limits.{Sizes, Header, JunctionForm, BeltForm, RuleForm, LiteralForm, Kinds, Leads, Rising, Names, reached, Limits}
+use Rattle.plan.proofs.Lists.{any-none, none-any, in-upto, upto-in, test}
+use Rattle.plan.proofs.Forms.{sized, few, size-fits, header, header-fits, fits-fields, fields-fit, kind-low, kind-high}
+use Rattle.plan.proofs.Links.{Well, Upward, Linked, link, linksAt-7, linksAt-1, linksAt-2, linksAt-3, linksAt-4, in-linkTo, linkTo-in, in-links, links-in}
+use Rattle.plan.proofs.Passed.{right, wrong-none, no-bad-link, linked}
 use Rattle.plan.proofs.Reached.{once-reached, reached-once}
 use Rattle.plan.proofs.Chains.{literals, above, belt-chain-in, belt-reached, leaves-is, belt-in-plan, plan-belt}
-use Rattle.plan.proofs.Literals.{fits-belt, fits-mode}
+use Rattle.plan.proofs.Literals.{fits-names, names-fits, unbroken-fits}
+use Rattle.plan.proofs.Naming.{few-named}
 use Rattle.plan.proofs.Accepted.{accepted-passed, passed-accepted}
 
 -- ---- line 3: the forms of records
 
 module _ (b : List ℕ) (r : ℕ) where
-  junction-form : kind b r ≡ 1 → fits b r ≡ true → Junction b r
+  junction-form : kind b r ≡ 1 → fits b r ≡ true → JunctionForm b r
   unfolding rowOf
   junction-form e h = let f = fits-fields b r 1 e h in record { kind-1 = e; zero-2 = f .1; zero-3 = f .2; zero-4 = f .3; zero-5 = f .4 }
 
@@ -41,7 +44,7 @@ module _ (b : List ℕ) (r : ℕ) where
   unfolding rowOf
   belt-form e h = let f = fits-fields b r 2 e h in record { kind-2 = e; leads-from = f .1 .0; leads-to = f .1 .1; zero-4 = f .3; zero-5 = f .4 }
 
-  rule-form : kind b r ≡ 3 → fits b r ≡ true → Rule b r
+  rule-form : kind b r ≡ 3 → fits b r ≡ true → RuleForm b r
   unfolding rowOf
   rule-form e h = let f = fits-fields b r 3 e h in record { kind-3 = e; zero-3 = f .2; zero-4 = f .3; zero-5 = f .4 }
 
@@ -49,7 +52,7 @@ module _ (b : List ℕ) (r : ℕ) where
   unfolding rowOf
   literal-form e h = let f = fits-fields b r 4 e h in record { kind-4 = e; wanted = f .1 .1; sort = f .2 .1; zero-5 = f .4 }
 
-  junction-fits : Junction b r → fits b r ≡ true
+  junction-fits : JunctionForm b r → fits b r ≡ true
   unfolding rowOf
   junction-fits j = fields-fit b r 1 (j .kind-1) (tt, j .zero-2, j .zero-3, j .zero-4, j .zero-5)
 
@@ -57,7 +60,7 @@ module _ (b : List ℕ) (r : ℕ) where
   unfolding rowOf
   belt-fits e = fields-fit b r 2 (e .kind-2) (tt, (e .leads-from, e .leads-to), tt, e .zero-4, e .zero-5)
 
-  rule-fits : Rule b r → fits b r ≡ true
+  rule-fits : RuleForm b r → fits b r ≡ true
   unfolding rowOf
   rule-fits e = fields-fit b r 3 (e .kind-3) (tt, tt, e .zero-3, e .zero-4, e .zero-5)
 
@@ -65,20 +68,20 @@ module _ (b : List ℕ) (r : ℕ) where
   unfolding rowOf
   literal-fits e = fields-fit b r 4 (e .kind-4) (tt, (omega arith, e .wanted), (omega arith, e .sort), tt, e .zero-5)
 
-  low-right : r ≤ junctions b → Junction b r → (rightKind b r ≡ true) × (fits b r ≡ true)
+  low-right : r ≤ junctions b → JunctionForm b r → (rightKind b r ≡ true) × (fits b r ≡ true)
   low-right u j = (kind-low b r u ∙ ap (λ (k : ℕ). mem k (1 ∷ [])) (j .kind-1), junction-fits j)
 
-  high-right : junctions b < r → BeltForm b r ⊎ (Rule b r ⊎ LiteralForm b r) → (rightKind b r ≡ true) × (fits b r ≡ true)
+  high-right : junctions b < r → BeltForm b r ⊎ (RuleForm b r ⊎ LiteralForm b r) → (rightKind b r ≡ true) × (fits b r ≡ true)
   high-right u (inl e) = (kind-high b r u ∙ ap (λ (k : ℕ). mem k (2 ∷ 3 ∷ 4 ∷ [])) (e .kind-2), belt-fits e)
   high-right u (inr (inl e)) = (kind-high b r u ∙ ap (λ (k : ℕ). mem k (2 ∷ 3 ∷ 4 ∷ [])) (e .kind-3), rule-fits e)
   high-right u (inr (inr e)) = (kind-high b r u ∙ ap (λ (k : ℕ). mem k (2 ∷ 3 ∷ 4 ∷ [])) (e .kind-4), literal-fits e)
 
-  high-form : fits b r ≡ true → (kind b r ≡ 2) ⊎ ((kind b r ≡ 3) ⊎ (kind b r ≡ 4)) → BeltForm b r ⊎ (Rule b r ⊎ LiteralForm b r)
+  high-form : fits b r ≡ true → (kind b r ≡ 2) ⊎ ((kind b r ≡ 3) ⊎ (kind b r ≡ 4)) → BeltForm b r ⊎ (RuleForm b r ⊎ LiteralForm b r)
   high-form h (inl e) = inl (belt-form e h)
   high-form h (inr (inl e)) = inr (inl (rule-form e h))
   high-form h (inr (inr e)) = inr (inr (literal-form e h))
 
-  high-kind : BeltForm b r ⊎ (Rule b r ⊎ LiteralForm b r) → (kind b r ≡ 2) ⊎ ((kind b r ≡ 3) ⊎ (kind b r ≡ 4))
+  high-kind : BeltForm b r ⊎ (RuleForm b r ⊎ LiteralForm b r) → (kind b r ≡ 2) ⊎ ((kind b r ≡ 3) ⊎ (kind b r ≡ 4))
   high-kind (inl e) = inl (e .kind-2)
   high-kind (inr (inl e)) = inr (inl (e .kind-3))
   high-kind (inr (inr e)) = inr (inr (e .kind-4))
@@ -113,9 +116,6 @@ sort b h k (suc r) u = go (test (leb (suc r) (junctions b)))
     go : (leb (suc r) (junctions b) ≡ true) ⊎ (leb (suc r) (junctions b) ≡ false) → Sort b (suc r)
     go (inl t) = low (k .low (suc r) (omega arith) (leb-true (suc r) (junctions b) t) .kind-1)
     go (inr t) = high (high-kind b (suc r) (k .high (suc r) (leb-false (suc r) (junctions b) t) u))
-
-abbrev Well : List ℕ → Link → Type 0
-Well b l = (l .holder < l .index) × (l .index < records b) × (kind b (l .index) ≡ l .want)
 
 module _ (b : List ℕ) (h : Header b) (k : Kinds b) (g : Rising b) where
   -- a chain index that leads well is a link that leads well
@@ -168,10 +168,6 @@ module _ (b : List ℕ) (w : Linked b) where
 
 -- ---- line 4: reached once
 
--- every link leads above the junctions
-abbrev Higher : List ℕ → Type 0
-Higher b = (l : Link) → List·Memᴰ l (links b) → (l .holder < l .index) × (l .index < records b) × (junctions b < l .index)
-
 module _ (b : List ℕ) (h : Header b) (k : Kinds b) (g : Rising b) where
   -- no link wants a junction
   wants : (l : Link) → List·Memᴰ l (links b) → 2 ≤ l .want
@@ -191,8 +187,8 @@ module _ (b : List ℕ) (h : Header b) (k : Kinds b) (g : Rising b) where
           pick (inl z) = by r (field b r 1) 3 (omega arith) z
           pick (inr z) = by r (field b r 2) 4 (omega arith) z
 
-  higher-links : Higher b
-  higher-links l m =
+  upward : Upward b
+  upward l m =
       let w = rising-well b h k g l m in
       (w .0, w .1, go (test (leb (l .index) (junctions b))))
     where
@@ -205,7 +201,7 @@ module _ (b : List ℕ) (h : Header b) (k : Kinds b) (g : Rising b) where
   -- ---- lines 1 to 4
 
   chains-unbroken : ((r : ℕ) → junctions b < r → r < records b → count (eqb r) (reached b) ≡ 1) → broken4 b ≡ false
-  chains-unbroken o = astray-none b (rising-well b h k g) (reached-once b (h .room) higher-links o)
+  chains-unbroken o = no-bad-link b (rising-well b h k g) (reached-once b (h .room) upward o)
 
 sizes-passed : (b : List ℕ) → Sizes b → Header b → Passed2 b
 sizes-passed b s h = (size-fits b (record { least = omega arith; most = omega arith; whole = s .whole }), header-fits b h)
@@ -222,7 +218,7 @@ Rise b = (e : Belt) → List·Memᴰ e (planOf b .belts) → e .leaves < e .lead
 higher-unbroken : (b : List ℕ) → Linked b → Rise b → broken5 b ≡ false
 unfolding broken5
 higher-unbroken b w h =
-    none-any (falls b) (upto 1 (suc (junctions b))) (λ j m.
+    none-any (backward b) (upto 1 (suc (junctions b))) (λ j m.
     let i = upto-in 1 (suc (junctions b)) j m in
     let u : j ≤ junctions b = omega (arith, i .1) in
     none-any (λ (e : ℕ). leb (field b e 2) j) (chain b (field b j 1)) (λ e n.
@@ -236,37 +232,11 @@ unbroken-higher b w h x m =
     let e = y .0 in
     let r = belt-reached w e (y .1) in
     let j = r .0 in
-    let f = any-none (falls b) (upto 1 (suc (junctions b))) h (in-upto 1 (suc (junctions b)) j (r .1) (omega (arith, r .2))) in
+    let f = any-none (backward b) (upto 1 (suc (junctions b))) h (in-upto 1 (suc (junctions b)) j (r .1) (omega (arith, r .2))) in
     let k = leb-false (field b e 2) j (any-none (λ (n : ℕ). leb (field b n 2) j) (chain b (field b j 1)) f (r .3)) in
     subst (λ (z : Belt). z .leaves < z .leads) (sym (y .2)) (subst (λ (s : ℕ). s < field b e 2) (sym (leaves-is w e j (r .1) (r .2) (r .3))) k)
 
 -- ---- line 6
-
-fits-names : (b : List ℕ) (l : ℕ) → literalFits b l ≡ true → Names b l
-fits-names b l h = record {
-  belt = λ e.
-      let k = both (ltb (field b l 4) (records b)) (eqb (kind b (field b l 4)) 2) (sym (fits-belt b l e) ∙ h) in
-      (ltb-true (field b l 4) (records b) (k .0), eqb-true (kind b (field b l 4)) 2 (k .1));
-  mode = λ e. within-is 1 (field b l 4) (modes b) (sym (fits-mode b l (λ z. omega arith)) ∙ h);
-}
-
-names-fits : (b : List ℕ) (l : ℕ) → field b l 3 ≤ 1 → Names b l → literalFits b l ≡ true
-names-fits b l s n = go (test (eqb (field b l 3) 0))
-  where
-    go : (eqb (field b l 3) 0 ≡ true) ⊎ (eqb (field b l 3) 0 ≡ false) → literalFits b l ≡ true
-    go (inl t) =
-        let e = eqb-true (field b l 3) 0 t in
-        let k = n .belt e in
-        fits-belt b l e
-        ∙ and-is (ltb (field b l 4) (records b)) (eqb (kind b (field b l 4)) 2) (lt-ltb (field b l 4) (records b) (k .0)) (eq-eqb (kind b (field b l 4)) 2 (k .1))
-    go (inr t) =
-        let d = borrow.Author.Tests.eqb-false (field b l 3) 0 t in
-        let k = n .mode (one-or (field b l 3) s d) in
-        fits-mode b l d ∙ is-within 1 (field b l 4) (modes b) (k .0) (k .1)
-      where
-        one-or : (x : ℕ) → x ≤ 1 → (x ≡ 0 → ⊥) → x ≡ 1
-        one-or zero q d = absurd (d refl)
-        one-or (suc x) q d = omega arith
 
 names-unbroken : (b : List ℕ) → Kinds b → ((l : ℕ) → l < records b → kind b l ≡ 4 → Names b l) → broken6 b ≡ false
 unfolding broken6
@@ -275,7 +245,7 @@ names-unbroken b k h =
     let i = upto-in (suc (junctions b)) (records b) l m in
     go l (i .0) (i .1) (test (eqb (kind b l) 4)))
   where
-    form : (l : ℕ) → kind b l ≡ 4 → BeltForm b l ⊎ (Rule b l ⊎ LiteralForm b l) → LiteralForm b l
+    form : (l : ℕ) → kind b l ≡ 4 → BeltForm b l ⊎ (RuleForm b l ⊎ LiteralForm b l) → LiteralForm b l
     form l e (inl x) = absurd (omega (arith, x .kind-2))
     form l e (inr (inl x)) = absurd (omega (arith, x .kind-3))
     form l e (inr (inr x)) = x
@@ -287,10 +257,7 @@ names-unbroken b k h =
         λ i. t i && not (names-fits b l (form l e (k .high l u v) .sort) (h l v e) i)
 
 unbroken-names : (b : List ℕ) → Linked b → broken6 b ≡ false → (l : ℕ) → l < records b → kind b l ≡ 4 → Names b l
-unfolding broken6
-unbroken-names b w h l u e =
-    let m = any-none (misnames b) (upto (suc (junctions b)) (records b)) h (in-upto (suc (junctions b)) (records b) l (above w literals l (u, e)) u) in
-    fits-names b l (not-false (literalFits b l) (sym (ap (λ (x : Bool). x && not (literalFits b l)) (eq-eqb (kind b l) 4 e)) ∙ m))
+unbroken-names b w h l u e = fits-names b l (unbroken-fits b h l (above w literals l (u, e)) u e)
 
 -- ---- the whole
 
@@ -311,12 +278,12 @@ accepted-limits b e =
     let k = unbroken-kinds b first in
     let g = well-rising b w in
     record {
-      sizes = record { whole = s .whole; few = omega arith };
+      sizes = record { whole = s .whole; few = few b (first .0 .0) };
       header = top;
       kinds = k;
       rising = g;
-      once = once-reached b (w .room) (higher-links b top k g) (w .once);
+      once = once-reached b (w .room) (upward b top k g) (w .once);
       higher = unbroken-higher b w (h .0 .1);
       literals = unbroken-names b w (h .0 .2);
-      few-named = ltb-false 48 (length (named (planOf b))) (h .1);
+      few-named = few-named b (h .1);
     }

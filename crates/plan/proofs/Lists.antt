@@ -1,17 +1,16 @@
 -- Laws of the lists and tests of specs/Lists.antt, grouped by what they are about:
--- Booleans, `any` and `all`, `keep`, `map`, `joined`, `upto`, `mem`, `count`, strictly rising lists.
+-- Booleans, `any` and `all`, `keep`, `map`, `joined`, `upto`, `mem`, `count`, loops that count up. Rising lists are in Rising.antt.
 -- Assumes nothing.
 use mathlib.Core.Path.{_≡_, refl, sym, _∙_, ap, subst}
 use mathlib.Core.Logic.{_⊎_, inl, inr}
 use mathlib.Core.Bool.{Bool, true, false, not, _&&_, _||_, true≢false}
 use Prim.Native.Nat.{ℕ, zero, suc, _+_, _-_, _≤_, _<_}
-use mathlib.Core.List.{List, [], _∷_, _++_, map, List·Memᴰ, List·Memᴰ·head, List·Memᴰ·tail, List·Memᴰ·not-nil, List·Memᴰ·cases-cons, List·Memᴰ·append-cases, Memᴰ·append-left, Memᴰ·append-right, Memᴰ·cast, append-assoc}
+use mathlib.Core.List.{List, [], _∷_, _++_, map, List·Memᴰ, List·Memᴰ·head, List·Memᴰ·tail, List·Memᴰ·not-nil, List·Memᴰ·cases-cons, List·Memᴰ·append-cases, Memᴰ·append-left, Memᴰ·append-right, Memᴰ·cast}
 use native.Mathlib.Omega.{arith}
 use native.Mathlib.Nat.{eq-or-lt-of-le}
 use native.Mathlib.Numerals.{add-one}
-use lib.ListN.{length}
 use lib.Dec.{eqb, leb, ltb}
-use borrow.Author.Tests.{eqb-true, eqb-false, eq-eqb, ne-eqb, ltb-true, ltb-false, le-leb, lt-leb}
+use borrow.Author.Tests.{eqb-true, eq-eqb, ltb-true, ltb-false, le-leb, lt-leb}
 use Rattle.plan.specs.Lists.{any, all, kept, keep, counted, count, mem, joined, run, upto}
 
 -- ---- Booleans
@@ -58,10 +57,6 @@ module _ {A : Type 0} (f : A → Bool) where
       go : (a ≡ x) ⊎ List·Memᴰ a xs → (List·Memᴰ a xs → f a ≡ true) → f a ≡ true
       go (inl e) below = ap f e ∙ both (f x) (all f xs) h .0
       go (inr k) below = below k
-
-  pub in-all : (xs : List A) → ((a : A) → List·Memᴰ a xs → f a ≡ true) → all f xs ≡ true
-  in-all [] h = refl
-  in-all (x ∷ xs) h = and-is (f x) (all f xs) (h x (List·Memᴰ·head refl)) (in-all xs (λ a m. h a (List·Memᴰ·tail m)))
 
   pub any-none : {a : A} (xs : List A) → any f xs ≡ false → List·Memᴰ a xs → f a ≡ false
   any-none [] h m = absurd (List·Memᴰ·not-nil m)

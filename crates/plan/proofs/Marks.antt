@@ -1,12 +1,11 @@
--- Following links, and the marks that it leaves (specs/Marks.antt).
+-- Following links, and the marks that it leaves (specs/Inner.antt).
 --
 --   follow-zero, -far, -back, -kind, -well   what following one chain index finds, by the tests that tell it
 --   pass-stop, -next, marks-next             a loop that follows lists of links, one after the other
 --   once-marked                              a record is marked as met once exactly where one link leads to it
 --
 -- Assumes nothing.
-use mathlib.Core.Path.{_≡_, refl, sym, _∙_, ap, subst}
-use mathlib.Core.Logic.{_⊎_, inl, inr}
+use mathlib.Core.Path.{_≡_, refl, sym, _∙_, ap}
 use mathlib.Core.Bool.{Bool, true, false, not, _&&_, _||_}
 use Prim.Native.Nat.{ℕ, zero, suc, _+_, _≤_, _<_}
 use mathlib.Core.List.{List, [], _∷_, _++_}
@@ -17,8 +16,8 @@ use lib.Dec.{eqb, ltb}
 use borrow.Author.Tests.{eqb-true, eqb-false, eq-eqb, ne-eqb, lt-ltb, le-ltb}
 use Rattle.plan.specs.Lists.{any, counted, joined, upto}
 use Rattle.plan.specs.Records.{kind, records, Link, linkTo}
-use Rattle.plan.specs.Refusals.{leadsWell, astray, pointers}
-use Rattle.plan.specs.Marks.{bump, mark, marked, markedOnce}
+use Rattle.plan.specs.Refusals.{badLink, pointers}
+use Rattle.plan.specs.Inner.{bump, mark, marked, markedOnce}
 use Rattle.plan.proofs.Lists.{any-append, any-cong, upto-step, upto-end, upto-in}
 use Rattle.plan.proofs.Links.{link}
 
@@ -32,24 +31,24 @@ linkTo-one r zero k d = absurd (d refl)
 linkTo-one r (suc i) k d = refl
 
 module _ (b : List ℕ) (r i k : ℕ) where
-  pub follow-zero : i ≡ 0 → any (astray b) (linkTo r i k) ≡ false
-  follow-zero e = ap (any (astray b)) (linkTo-none r i k e)
+  pub follow-zero : i ≡ 0 → any (badLink b) (linkTo r i k) ≡ false
+  follow-zero e = ap (any (badLink b)) (linkTo-none r i k e)
 
   module _ (d : i ≡ 0 → ⊥) where
-    -- a link leads astray if one of its three tests fails
-    tests : (x y z : Bool) → ltb i (records b) ≡ x → ltb r i ≡ y → eqb (kind b i) k ≡ z → any (astray b) (linkTo r i k) ≡ (not (x && y && z) || false)
-    tests x y z p q s = ap (any (astray b)) (linkTo-one r i k d) ∙ (λ j. not (p j && q j && s j) || false)
+    -- a link is wrong if one of its three tests fails
+    tests : (x y z : Bool) → ltb i (records b) ≡ x → ltb r i ≡ y → eqb (kind b i) k ≡ z → any (badLink b) (linkTo r i k) ≡ (not (x && y && z) || false)
+    tests x y z p q s = ap (any (badLink b)) (linkTo-one r i k d) ∙ (λ j. not (p j && q j && s j) || false)
 
-    pub follow-far : records b ≤ i → any (astray b) (linkTo r i k) ≡ true
+    pub follow-far : records b ≤ i → any (badLink b) (linkTo r i k) ≡ true
     follow-far h = tests false (ltb r i) (eqb (kind b i) k) (le-ltb i (records b) h) refl refl
 
-    pub follow-back : i < records b → i ≤ r → any (astray b) (linkTo r i k) ≡ true
+    pub follow-back : i < records b → i ≤ r → any (badLink b) (linkTo r i k) ≡ true
     follow-back h l = tests true false (eqb (kind b i) k) (lt-ltb i (records b) h) (le-ltb r i l) refl
 
-    pub follow-kind : i < records b → r < i → (kind b i ≡ k → ⊥) → any (astray b) (linkTo r i k) ≡ true
+    pub follow-kind : i < records b → r < i → (kind b i ≡ k → ⊥) → any (badLink b) (linkTo r i k) ≡ true
     follow-kind h l n = tests true true false (lt-ltb i (records b) h) (lt-ltb r i l) (ne-eqb (kind b i) k n)
 
-    pub follow-well : i < records b → r < i → kind b i ≡ k → any (astray b) (linkTo r i k) ≡ false
+    pub follow-well : i < records b → r < i → kind b i ≡ k → any (badLink b) (linkTo r i k) ≡ false
     follow-well h l e = tests true true true (lt-ltb i (records b) h) (lt-ltb r i l) (eq-eqb (kind b i) k e)
 
 -- ---- a loop over lists of links

@@ -16,23 +16,25 @@
 -- Assumes nothing.
 use mathlib.Core.Path.{_≡_, refl, sym, _∙_, ap, subst}
 use mathlib.Core.Logic.{_⊎_, inl, inr}
-use mathlib.Core.Bool.{Bool, true, false, not, _&&_, _||_}
-use Prim.Native.Nat.{ℕ, suc, _+_, _*_, _≤_, _<_}
+use mathlib.Core.Bool.{Bool, true, false, _&&_, _||_}
+use Prim.Native.Nat.{ℕ, suc, _+_, _≤_, _<_}
 use mathlib.Core.List.{List, [], _∷_, map, List·Memᴰ}
 use native.Mathlib.Omega.{arith}
 use lib.ListN.{length, getD, set, replicate, length-set, length-replicate, getD-replicate}
 use lib.Seq.{getD-set-same, getD-set-other}
-use lib.Dec.{eqb, ltb}
-use borrow.Author.Tests.{eqb-true, eqb-false, eq-eqb, ltb-true, ltb-false, not-false}
+use lib.Dec.{eqb}
+use borrow.Author.Tests.{eqb-true, eqb-false, eq-eqb, ltb-false}
 use Rattle.plan.specs.Lists.{any, keep, counted, count, upto}
 use Rattle.plan.specs.Records.{IsKind, field, kind, junctions, records, chain}
 use Rattle.plan.specs.Plan.{Belt, Plan, beltAt, beltRecords, literalBy, literalAt, ruleAt, planOf, names, inRule, named}
-use Rattle.plan.specs.Refusals.{broken6, broken7, fitsBy, literalFits, misnames, Passed6}
-use Rattle.plan.specs.Marks.{markedOnce, namesBelt, note, noted, notes}
-use Rattle.plan.proofs.Lists.{test, both, and-is, any-none, in-any, any-some, in-keep, keep-in, in-map, map-in, in-upto, upto-in, upto-step, upto-end}
+use Rattle.plan.specs.Refusals.{broken6, broken7}
+use Rattle.plan.specs.Inner.{Passed6}
+use Rattle.plan.specs.Inner.{markedOnce, namesBelt, note, noted, notes}
+use Rattle.plan.proofs.Lists.{test, both, and-is, in-any, any-some, in-keep, keep-in, in-map, map-in, in-upto, upto-in, upto-step, upto-end}
 use Rattle.plan.proofs.Counts.{length-keep}
 use Rattle.plan.proofs.Rising.{Rises, upto-rises, keep-rises, rises-equal}
-use Rattle.plan.proofs.Forms.{sized}
+use Rattle.plan.proofs.Forms.{few}
+use Rattle.plan.proofs.Literals.{unbroken-fits, fits-names}
 use Rattle.plan.proofs.Chains.{literals, above, rule-chain-in, literal-chain-in, rule-reached, literal-reached, record-belt, belt-record, records-rise}
 use Rattle.plan.proofs.Passed.{linked}
 
@@ -40,21 +42,9 @@ use Rattle.plan.proofs.Passed.{linked}
 
 -- a literal of a belt names a belt record
 pub names-record : (b : List ℕ) → broken6 b ≡ false → (l : ℕ) → junctions b < l → l < records b → namesBelt b l ≡ true → IsKind b 2 (field b l 4)
-unfolding broken6
 names-record b h l lo hi t =
     let k = both (eqb (kind b l) 4) (eqb (field b l 3) 0) t in
-    let none = any-none (misnames b) (upto (suc (junctions b)) (records b)) h (in-upto (suc (junctions b)) (records b) l lo hi) in
-    let fit : literalFits b l ≡ true = not-false _ (ap (λ (s : Bool). s && not (literalFits b l)) (sym (k .0)) ∙ none) in
-    let belt : fitsBy true b (field b l 4) ≡ true = ap (λ (s : Bool). fitsBy s b (field b l 4)) (sym (k .1)) ∙ fit in
-    let r = both (ltb (field b l 4) (records b)) (eqb (kind b (field b l 4)) 2) belt in
-    (ltb-true (field b l 4) (records b) (r .0), eqb-true (kind b (field b l 4)) 2 (r .1))
-
--- there are at most 2,048 records, and record r is there
-pub few : (b : List ℕ) → Passed6 b → records b ≤ 2048
-few b h = let s = sized b (h .0 .0 .0) in omega arith
-
-pub room : (b : List ℕ) → Passed6 b → (r : ℕ) → r < records b → 12 * r + 12 ≤ length b
-room b h r l = let s = sized b (h .0 .0 .0) in omega arith
+    fits-names b l (unbroken-fits b h l lo hi (eqb-true (kind b l) 4 (k .0))) .belt (eqb-true (field b l 3) 0 (k .1))
 
 -- ---- marking
 
@@ -161,7 +151,7 @@ names-at b e l = go (eqb (field b l 3) 0)
     go true = refl
     go false = refl
 
-names-back : (b : List ℕ) (xs : List ℕ) → map (λ (x : Belt). x .name) (map (beltAt b) xs) ≡ xs
+pub names-back : (b : List ℕ) (xs : List ℕ) → map (λ (x : Belt). x .name) (map (beltAt b) xs) ≡ xs
 names-back b [] = refl
 names-back b (x ∷ xs) = ap (λ (l : List ℕ). x ∷ l) (names-back b xs)
 
@@ -224,13 +214,13 @@ module _ (b : List ℕ) (h : Passed6 b) where
       onto e m =
           let o = named-in b e m in
           in-keep once (upto 0 (records b)) (in-upto 0 (records b) e (omega arith) (o .0))
-          (once-at b e (omega (arith, o .0, few b h)) ∙ rule-names e (named-of (planOf b) e m .1))
+          (once-at b e (omega (arith, o .0, few b (h .0 .0 .0))) ∙ rule-names e (named-of (planOf b) e m .1))
 
       into : (e : ℕ) → List·Memᴰ e (keep once (upto 0 (records b))) → List·Memᴰ e (named (planOf b))
       into e m =
           let k = keep-in once (upto 0 (records b)) m in
           let u = upto-in 0 (records b) e (k .0) in
-          let (o, t) = names-rule e (sym (once-at b e (omega (arith, u .1, few b h))) ∙ k .1) in
+          let (o, t) = names-rule e (sym (once-at b e (omega (arith, u .1, few b (h .0 .0 .0)))) ∙ k .1) in
           subst (List·Memᴰ e) (sym (named-records b)) (in-keep (inSome (planOf b)) (beltRecords b) (belt-record (linked b (h .0)) e o) t)
 
   pub named-count : length (named (planOf b)) ≡ count (markedOnce (notes b)) (upto 0 (records b))

@@ -2,25 +2,24 @@
 --
 --   right, linked     what unbroken lines say
 --   wrong-none        line 3 is unbroken if every record is of a right kind and fits
---   astray-none       line 4 is unbroken if every link leads well and every record above J has one
+--   no-bad-link       line 4 is unbroken if every link leads well and every record above J has one
 --
 -- Assumes nothing.
-use mathlib.Core.Path.{_≡_, refl, sym, _∙_, ap, subst}
+use mathlib.Core.Path.{_≡_, sym, _∙_, ap}
 use mathlib.Core.Logic.{_⊎_, inl, inr}
-use mathlib.Core.Bool.{Bool, true, false, not, _&&_, _||_}
-use Prim.Native.Nat.{ℕ, zero, suc, _+_, _*_, _≤_, _<_}
+use mathlib.Core.Bool.{Bool, true, false, not, _&&_}
+use Prim.Native.Nat.{ℕ, suc, _≤_, _<_}
 use mathlib.Core.List.{List, [], _∷_, List·Memᴰ, List·Memᴰ·cases-cons, List·Memᴰ·eq-of-singleton}
 use native.Mathlib.Omega.{arith}
-use lib.ListN.{length}
 use lib.Dec.{eqb, ltb}
 use borrow.Author.Tests.{eqb-true, eq-eqb, ltb-true, lt-ltb, not-false}
-use Rattle.plan.specs.Lists.{any, mem, upto}
+use Rattle.plan.specs.Lists.{any, upto}
 use Rattle.plan.specs.Records.{kind, junctions, records, fits, Link, links}
-use Rattle.plan.specs.Refusals.{broken3, broken4, rightKind, leadsWell, astray, pointers, Passed2, Passed4}
-use Rattle.plan.specs.Limits.{Header}
+use Rattle.plan.specs.Refusals.{broken3, broken4, rightKind, badLink, pointers}
+use Rattle.plan.specs.Inner.{Passed4}
 use Rattle.plan.proofs.Lists.{both, and-is, neither, or-is, any-none, none-any, mem-in, in-upto, upto-in}
 use Rattle.plan.proofs.Forms.{header, kind-low, kind-high}
-use Rattle.plan.proofs.Links.{Linked}
+use Rattle.plan.proofs.Links.{Well, Linked}
 
 -- ---- line 3
 
@@ -59,26 +58,26 @@ high b r u h = second (List·Memᴰ·cases-cons (mem-in (2 ∷ 3 ∷ 4 ∷ []) (
 abbrev not-once : List ℕ → ℕ → Bool
 not-once b r = not (eqb (pointers (links b) r) 1)
 
-well : (b : List ℕ) → broken4 b ≡ false → (l : Link) → List·Memᴰ l (links b) → (l .holder < l .index) × (l .index < records b) × (kind b (l .index) ≡ l .want)
+well : (b : List ℕ) → broken4 b ≡ false → (l : Link) → List·Memᴰ l (links b) → Well b l
 unfolding broken4
 well b h l m =
-    let a = neither (any (astray b) (links b)) (any (not-once b) (upto (suc (junctions b)) (records b))) h .0 in
-    let k = both (ltb (l .index) (records b) && ltb (l .holder) (l .index)) (eqb (kind b (l .index)) (l .want)) (not-false _ (any-none (astray b) (links b) a m)) in
+    let a = neither (any (badLink b) (links b)) (any (not-once b) (upto (suc (junctions b)) (records b))) h .0 in
+    let k = both (ltb (l .index) (records b) && ltb (l .holder) (l .index)) (eqb (kind b (l .index)) (l .want)) (not-false _ (any-none (badLink b) (links b) a m)) in
     let j = both (ltb (l .index) (records b)) (ltb (l .holder) (l .index)) (k .0) in
     (ltb-true (l .holder) (l .index) (j .1), ltb-true (l .index) (records b) (j .0), eqb-true (kind b (l .index)) (l .want) (k .1))
 
 once : (b : List ℕ) → broken4 b ≡ false → (r : ℕ) → junctions b < r → r < records b → pointers (links b) r ≡ 1
 unfolding broken4
 once b h r l u =
-    let a = neither (any (astray b) (links b)) (any (not-once b) (upto (suc (junctions b)) (records b))) h .1 in
+    let a = neither (any (badLink b) (links b)) (any (not-once b) (upto (suc (junctions b)) (records b))) h .1 in
     eqb-true (pointers (links b) r) 1 (not-false _ (any-none (not-once b) (upto (suc (junctions b)) (records b)) a (in-upto (suc (junctions b)) (records b) r l u)))
 
-pub astray-none : (b : List ℕ) → ((l : Link) → List·Memᴰ l (links b) → (l .holder < l .index) × (l .index < records b) × (kind b (l .index) ≡ l .want))
+pub no-bad-link : (b : List ℕ) → ((l : Link) → List·Memᴰ l (links b) → Well b l)
     → ((r : ℕ) → junctions b < r → r < records b → pointers (links b) r ≡ 1) → broken4 b ≡ false
 unfolding broken4
-astray-none b w o =
-    or-is (any (astray b) (links b)) (any (not-once b) (upto (suc (junctions b)) (records b)))
-    (none-any (astray b) (links b) (λ l m.
+no-bad-link b w o =
+    or-is (any (badLink b) (links b)) (any (not-once b) (upto (suc (junctions b)) (records b)))
+    (none-any (badLink b) (links b) (λ l m.
     let k = w l m in
     ap not
     (and-is (ltb (l .index) (records b) && ltb (l .holder) (l .index)) (eqb (kind b (l .index)) (l .want))

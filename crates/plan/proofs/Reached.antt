@@ -16,7 +16,7 @@ use mathlib.Core.Path.{_≡_, refl, sym, _∙_, ap}
 use mathlib.Core.Logic.{_⊎_, inl, inr}
 use mathlib.Core.Bool.{Bool, true, false}
 use Prim.Native.Nat.{ℕ, zero, suc, _+_, _*_, _-_, _≤_, _<_}
-use mathlib.Core.List.{List, [], _∷_, _++_, List·Memᴰ, List·Memᴰ·head, List·Memᴰ·tail, List·Memᴰ·not-nil, List·Memᴰ·cases-cons}
+use mathlib.Core.List.{List, [], _∷_, _++_, List·Memᴰ, List·Memᴰ·head, List·Memᴰ·tail, List·Memᴰ·not-nil, List·Memᴰ·cases-cons, map}
 use native.Mathlib.Omega.{arith}
 use native.Mathlib.Nat.{mul-zero, zero-mul, suc-mul, eq-zero-or-pos}
 use lib.Dec.{eqb, ltb}
@@ -26,9 +26,9 @@ use Rattle.plan.specs.declared.table.Use.the-variants.{Any, Unused, Betw
 use Rattle.plan.specs.Lists.{counted, count, joined, run, upto}
 use Rattle.plan.specs.Records.{field, junctions, records, rowAt, useAt, fields, Link, linkBy, linksAt, links}
 use Rattle.plan.specs.Refusals.{pointers}
-use Rattle.plan.specs.Limits.{met, reached}
+use Rattle.plan.specs.Limits.{walk, reached}
 use Rattle.plan.proofs.Lists.{test, joined-in, upto-step, upto-in, count-append, count-some}
-use Rattle.plan.proofs.Links.{linkTo-in, in-links}
+use Rattle.plan.proofs.Links.{target, held-links, Upward, linkTo-in, in-links}
 
 -- ---- sums over lists
 
@@ -70,7 +70,7 @@ count-joined f g (x ∷ xs) = omega (arith, count-append f (g x) (joined g xs), 
 
 -- ---- the numbers of a range
 
--- a run falls into two runs
+-- a run backward into two runs
 run-split : (i m n : ℕ) → run i (m + n) ≡ run i m ++ run (i + m) n
 run-split i zero n =
     let e : 0 + n ≡ n = omega arith in
@@ -81,7 +81,7 @@ run-split i (suc m) n =
     let k : suc i + m ≡ i + suc m = omega arith in
     ap (run i) e ∙ ap (λ (l : List ℕ). i ∷ l) (run-split (suc i) m n) ∙ ap (λ (j : ℕ). run i (suc m) ++ run j n) k
 
--- a range falls into two at any number in it
+-- a range backward into two at any number in it
 upto-split : (lo mid hi : ℕ) → lo ≤ mid → mid ≤ hi → upto lo hi ≡ upto lo mid ++ upto mid hi
 upto-split lo mid hi a z =
     let e : hi - lo ≡ (mid - lo) + (hi - mid) = omega arith in
@@ -190,6 +190,14 @@ others b = upto (suc (junctions b)) (records b)
 abbrev Other : List ℕ → ℕ → Type 0
 Other b r = (suc (junctions b) ≤ r) × (r < records b)
 
+-- the records met from record i on, in at most n links, and those met from records 0 to J on
+abbrev met : List ℕ → ℕ → ℕ → List ℕ
+met b zero i = []
+met b (suc n) i = joined (λ (l : Link). l .index ∷ met b n (l .index)) (linksAt b i)
+
+met-all : List ℕ → List ℕ
+met-all b = joined (met b (records b)) (firsts b)
+
 -- a link of record i leads above i, above J and below N
 abbrev Rises : List ℕ → ℕ → Link → Type 0
 Rises b i l = (i < l .index) × (l .index < records b) × (junctions b < l .index)
@@ -198,8 +206,27 @@ Rises b i l = (i < l .index) × (l .index < records b) × (junctions b < l .inde
 abbrev linksTo : List ℕ → ℕ → ℕ → ℕ
 linksTo b r x = pointers (linksAt b x) r
 
-module _ (b : List ℕ) (room : junctions b < records b)
-    (well : (l : Link) → List·Memᴰ l (links b) → (l .holder < l .index) × (l .index < records b) × (junctions b < l .index)) where
+-- the limits walk along chain fields, which hold the same indices
+joined-map : (f : ℕ → List ℕ) (ls : List Link) → joined f (map target ls) ≡ joined (λ (l : Link). f (l .index)) ls
+joined-map f [] = refl
+joined-map f (l ∷ ls) = ap (λ (xs : List ℕ). f (l .index) ++ xs) (joined-map f ls)
+
+joined-same : {A : Type 0} (f g : A → List ℕ) → ((a : A) → f a ≡ g a) → (xs : List A) → joined f xs ≡ joined g xs
+joined-same f g h [] = refl
+joined-same f g h (x ∷ xs) = λ i. h x i ++ joined-same f g h xs i
+
+walk-met : (b : List ℕ) (n i : ℕ) → walk b n i ≡ met b n i
+walk-met b zero i = refl
+walk-met b (suc n) i =
+    ap (joined (λ (x : ℕ). x ∷ walk b n x)) (held-links b i)
+    ∙ joined-map (λ (x : ℕ). x ∷ walk b n x) (linksAt b i)
+    ∙ joined-same (λ (l : Link). l .index ∷ walk b n (l .index)) (λ (l : Link). l .index ∷ met b n (l .index)) (λ l. ap (λ (xs : List ℕ). l .index ∷ xs) (walk-met b n (l .index))) (linksAt b i)
+
+reached-met : (b : List ℕ) → reached b ≡ met-all b
+unfolding reached met-all
+reached-met b = joined-same (walk b (records b)) (met b (records b)) (walk-met b (records b)) (firsts b)
+
+module _ (b : List ℕ) (room : junctions b < records b) (well : Upward b) where
   -- the links of one record, by its own index
   well-at : (i : ℕ) → i < records b → (l : Link) → List·Memᴰ l (linksAt b i) → Rises b i l
   well-at i h l m =
@@ -231,9 +258,9 @@ module _ (b : List ℕ) (room : junctions b < records b)
       go l w (inr k) below = below (w .1) k
 
   -- and so what is reached
-  reached-within : (r : ℕ) → List·Memᴰ r (reached b) → Other b r
-  unfolding reached
-  reached-within r m =
+  met-all-within : (r : ℕ) → List·Memᴰ r (met-all b) → Other b r
+  unfolding met-all
+  met-all-within r m =
       let s = joined-in (met b (records b)) (firsts b) m in
       let low : s .0 < suc (junctions b) = upto-in 0 (suc (junctions b)) (s .0) (s .1) .1 in
       met-within (records b) (s .0) r (omega arith) (s .2)
@@ -245,9 +272,9 @@ module _ (b : List ℕ) (room : junctions b < records b)
       flow-along r (linksTo b r) (met b n) (linksAt b i) (λ l m. let w = well-at i h l m in flow r n (l .index) (w .1) (omega (arith, w .0)))
 
   -- the same of all that is met from records 0 to J on
-  flow-reached : (r : ℕ) → count (eqb r) (reached b) ≡ sum (linksTo b r) (firsts b) + sum (linksTo b r) (reached b)
-  unfolding reached
-  flow-reached r =
+  flow-all : (r : ℕ) → count (eqb r) (met-all b) ≡ sum (linksTo b r) (firsts b) + sum (linksTo b r) (met-all b)
+  unfolding met-all
+  flow-all r =
       count-joined (eqb r) (met b (records b)) (firsts b)
       ∙ sum-cong (λ (i : ℕ). count (eqb r) (met b (records b) i)) (λ (i : ℕ). linksTo b r i + sum (linksTo b r) (met b (records b) i)) (firsts b) one
       ∙ sum-plus (linksTo b r) (λ (i : ℕ). sum (linksTo b r) (met b (records b) i)) (firsts b)
@@ -265,35 +292,37 @@ module _ (b : List ℕ) (room : junctions b < records b)
       ∙ sum-append (linksTo b r) (firsts b) (others b)
 
   -- the two counts agree where every record before r is met once
-  agree : (r : ℕ) → ((x : ℕ) → junctions b < x → x < records b → x < r → count (eqb x) (reached b) ≡ 1) → count (eqb r) (reached b) ≡ pointers (links b) r
-  agree r once = omega (arith, flow-reached r, pointers-sum r, same)
+  agree : (r : ℕ) → ((x : ℕ) → junctions b < x → x < records b → x < r → count (eqb x) (met-all b) ≡ 1) → count (eqb r) (met-all b) ≡ pointers (links b) r
+  agree r once = omega (arith, flow-all r, pointers-sum r, same)
     where
-      once-or-none : (x : ℕ) → junctions b < x → x < records b → (ltb x r ≡ true) ⊎ (ltb x r ≡ false) → count (eqb x) (reached b) * linksTo b r x ≡ linksTo b r x
+      once-or-none : (x : ℕ) → junctions b < x → x < records b → (ltb x r ≡ true) ⊎ (ltb x r ≡ false) → count (eqb x) (met-all b) * linksTo b r x ≡ linksTo b r x
       once-or-none x a z (inl t) = ap (λ (n : ℕ). n * linksTo b r x) (once x a z (ltb-true x r t)) ∙ omega arith
       once-or-none x a z (inr t) =
           let e : linksTo b r x ≡ 0 = none-to r x z (ltb-false x r t) in
-          ap (λ (n : ℕ). count (eqb x) (reached b) * n) e ∙ mul-zero (count (eqb x) (reached b)) ∙ sym e
+          ap (λ (n : ℕ). count (eqb x) (met-all b) * n) e ∙ mul-zero (count (eqb x) (met-all b)) ∙ sym e
 
-      each : (x : ℕ) → List·Memᴰ x (others b) → count (eqb x) (reached b) * linksTo b r x ≡ linksTo b r x
+      each : (x : ℕ) → List·Memᴰ x (others b) → count (eqb x) (met-all b) * linksTo b r x ≡ linksTo b r x
       each x m = let w = upto-in (suc (junctions b)) (records b) x m in once-or-none x (w .0) (w .1) (test (ltb x r))
 
-      same : sum (linksTo b r) (reached b) ≡ sum (linksTo b r) (others b)
+      same : sum (linksTo b r) (met-all b) ≡ sum (linksTo b r) (others b)
       same =
-          sum-counts (linksTo b r) (suc (junctions b)) (records b) (reached b) reached-within
-          ∙ sum-cong (λ (x : ℕ). count (eqb x) (reached b) * linksTo b r x) (linksTo b r) (others b) each
+          sum-counts (linksTo b r) (suc (junctions b)) (records b) (met-all b) met-all-within
+          ∙ sum-cong (λ (x : ℕ). count (eqb x) (met-all b) * linksTo b r x) (linksTo b r) (others b) each
 
   -- by induction on what r lies below
   below : ((r : ℕ) → junctions b < r → r < records b → pointers (links b) r ≡ 1)
-      → (top r : ℕ) → r < top → junctions b < r → r < records b → count (eqb r) (reached b) ≡ 1
+      → (top r : ℕ) → r < top → junctions b < r → r < records b → count (eqb r) (met-all b) ≡ 1
   below once zero r k l u = absurd (omega arith)
   below once (suc top) r k l u = agree r (λ x a z j. below once top x (omega arith) a z) ∙ once r l u
 
-  -- every record above J is pointed at once: then every one is met once
+  -- every record above J is pointed at once: then every one is reached once
   pub once-reached : ((r : ℕ) → junctions b < r → r < records b → pointers (links b) r ≡ 1)
       → (r : ℕ) → junctions b < r → r < records b → count (eqb r) (reached b) ≡ 1
-  once-reached once r l u = below once (records b) r u l u
+  once-reached once r l u = ap (count (eqb r)) (reached-met b) ∙ below once (records b) r u l u
 
   -- and the other way round
   pub reached-once : ((r : ℕ) → junctions b < r → r < records b → count (eqb r) (reached b) ≡ 1)
       → (r : ℕ) → junctions b < r → r < records b → pointers (links b) r ≡ 1
-  reached-once once r l u = sym (agree r (λ x a z k. once x a z)) ∙ once r l u
+  reached-once once r l u =
+      let all : (x : ℕ) → junctions b < x → x < records b → count (eqb x) (met-all b) ≡ 1 = λ x a z. ap (count (eqb x)) (sym (reached-met b)) ∙ once x a z in
+      sym (agree r (λ x a z k. all x a z)) ∙ all r l u

@@ -6,12 +6,13 @@
 --   literals-end, literals-next, first-literal-is, next-literal-is               the literals of a rule
 -- Belts of the plan:
 --   belt-in, belt-of        the belts of the plan are the belt records
+--   belts-rise              their names rise
 --   belt-name               two belts of one name are equal
 --   belt-ends               a belt leaves a junction and leads to a higher one
 --   belt-leaving            a belt is among those leaving one junction, and that is where it leaves
 --   on-chain, one-chain     its record stands on the chain of that junction and of no other
 --   belt-low                its name is above J, below N and below 2,048
---   belt-cost               THE BOUND of a belt's cost
+--   belt-cost, belts-cost   THE BOUND of a belt's cost, at a record and in the plan
 -- Rules and named belts:
 --   literal-belt, literal-mode   what a literal of a rule names
 --   named-few               at most 48; that they rise, and are exactly the belts in some rule, is in Naming.antt
@@ -24,21 +25,23 @@ use mathlib.Core.Bool.{Bool, true, false}
 use Prim.Native.Nat.{ℕ, zero, suc, _+_, _*_, _≤_, _<_}
 use mathlib.Core.List.{List, [], _∷_, map, List·Memᴰ}
 use native.Mathlib.Omega.{arith}
-use lib.ListN.{length, getD}
+use lib.ListN.{length}
 use lib.Dec.{eqb}
 use borrow.Author.Tests.{eqb-true, eqb-false, eq-eqb}
 use Rattle.plan.specs.declared.read.BeltId.{BeltId}
 use Rattle.plan.specs.declared.read.ModeId.{ModeId}
 use Rattle.plan.specs.declared.read.Literal.{Literal}
 use Rattle.plan.specs.declared.read.Literal.the-variants.{OfBelt, OfMode}
-use Rattle.plan.specs.Records.{field, kind, junctions, modes, records, IsKind, chain}
-use Rattle.plan.specs.Plan.{Belt, Plan, planOf, leaves, beltAt, literalBy, literalAt, ruleAt, leaving, named}
-use Rattle.plan.specs.Limits.{Limits, LiteralForm, BeltForm, Rule}
+use Rattle.plan.specs.Records.{field, kind, junctions, modes, records, chain}
+use Rattle.plan.specs.Plan.{Belt, planOf, leaves, beltAt, beltRecords, literalBy, literalAt, ruleAt, leaving, named}
+use Rattle.plan.specs.Limits.{Limits, LiteralForm, BeltForm, RuleForm}
 use Rattle.plan.specs.Reading.{Accepted, Bytes, IsBelt, IsRule, IsLiteral, firstBelt, nextBelt, firstRule, nextRule, firstLiteral, nextLiteral, beltsFrom, rulesFrom, literalsFrom}
-use Rattle.plan.proofs.Lists.{test, in-keep, map-in}
+use Rattle.plan.proofs.Lists.{in-keep, map-in}
 use Rattle.plan.proofs.Links.{Linked}
+use Rattle.plan.proofs.Rising.{Rises}
 use Rattle.plan.proofs.Passed.{linked}
-use Rattle.plan.proofs.Chains.{above, belts, literals, chain-end, belt-step, rule-step, literal-step, first-belt, next-belt, first-rule, next-rule, first-literal, next-literal, rule-chain-in, literal-chain-in, belt-reached, leaves-is, belt-in-plan, plan-belt, leaving-chain}
+use Rattle.plan.proofs.Chains.{above, belts, literals, chain-end, belt-step, rule-step, literal-step, first-belt, next-belt, first-rule, next-rule, first-literal, next-literal, rule-chain-in, literal-chain-in, belt-reached, leaves-is, records-rise, belt-in-plan, plan-belt, leaving-chain}
+use Rattle.plan.proofs.Naming.{names-back}
 use Rattle.plan.proofs.Accepted.{accepted-passed}
 use Rattle.plan.proofs.Limits.{accepted-limits}
 
@@ -118,6 +121,10 @@ module _ {b : List ℕ} (ok : Accepted b) where
   pub belt-name : (x y : Belt) → List·Memᴰ x (planOf b .belts) → List·Memᴰ y (planOf b .belts) → x .name ≡ y .name → x ≡ y
   belt-name x y m n e = belt-of x m .1 ∙ ap (beltAt b) e ∙ sym (belt-of y n .1)
 
+  pub belts-rise : Rises (map (λ (x : Belt). x .name) (planOf b .belts))
+  unfolding planOf
+  belts-rise = subst Rises (sym (names-back b (beltRecords b))) (records-rise b)
+
   pub on-chain : (e : ℕ) → IsBelt b e → (1 ≤ leaves b e) × (leaves b e ≤ junctions b) × List·Memᴰ e (chain b (firstBelt b (leaves b e)))
   on-chain e o =
       let (j, l, u, m) = belt-reached links e o in
@@ -136,7 +143,7 @@ module _ {b : List ℕ} (ok : Accepted b) where
       let form = go (all .kinds .high (x .name) (above links belts (x .name) o) (o .0)) (o .1) in
       (l, all .higher x m, subst (λ (y : Belt). y .leads ≤ junctions b) (sym q) form)
     where
-      go : BeltForm b (x .name) ⊎ (Rule b (x .name) ⊎ LiteralForm b (x .name)) → kind b (x .name) ≡ 2 → field b (x .name) 2 ≤ junctions b
+      go : BeltForm b (x .name) ⊎ (RuleForm b (x .name) ⊎ LiteralForm b (x .name)) → kind b (x .name) ≡ 2 → field b (x .name) 2 ≤ junctions b
       go (inl f) k = f .leads-to
       go (inr (inl f)) k = absurd (omega (arith, f .kind-3))
       go (inr (inr f)) k = absurd (omega (arith, f .kind-4))
@@ -149,6 +156,9 @@ module _ {b : List ℕ} (ok : Accepted b) where
 
   pub belt-cost : Bytes b → (e : ℕ) → beltAt b e .cost < 65536
   belt-cost bytes e = omega (arith, bytes (12 * e + 2 * 3), bytes (12 * e + 2 * 3 + 1))
+
+  pub belts-cost : Bytes b → (x : Belt) → List·Memᴰ x (planOf b .belts) → x .cost < 65536
+  belts-cost bytes x m = subst (λ (y : Belt). y .cost < 65536) (sym (belt-of x m .1)) (belt-cost bytes (x .name))
 
   -- ---- rules
 
@@ -176,7 +186,7 @@ module _ {b : List ℕ} (ok : Accepted b) where
       let one = one-of (field b l 3) form (eqb-false (field b l 3) 0 t) in
       subst (λ (x : ℕ). (1 ≤ x) × (x ≤ modes b)) (sym n) (all .literals l (o .0) (o .1) .mode one)
     where
-      go : (l : ℕ) → BeltForm b l ⊎ (Rule b l ⊎ LiteralForm b l) → kind b l ≡ 4 → field b l 3 ≤ 1
+      go : (l : ℕ) → BeltForm b l ⊎ (RuleForm b l ⊎ LiteralForm b l) → kind b l ≡ 4 → field b l 3 ≤ 1
       go l (inl f) z = absurd (omega (arith, f .kind-2))
       go l (inr (inl f)) z = absurd (omega (arith, f .kind-3))
       go l (inr (inr f)) z = f .sort

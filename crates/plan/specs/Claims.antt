@@ -1,8 +1,8 @@
 -- What is claimed of the plan check, as types; proofs/Claims.antt proves each. The contract of `check::check` says that its answer's
 -- number is `refusal` of the bytes, for any bytes; these say what that number means.
 --
---   Unbroken ls b     b breaks no line of ls
---   FirstIn ls b n    n is the number of the first line of ls that b breaks
+--   Unbroken ls a     a breaks no line of ls
+--   FirstIn ls a n    n is the number of the first line of ls that a breaks
 --   FirstClaim        the number is n exactly when n is that of the first broken line, and 0 exactly when none is broken
 --   LimitsClaim       nothing is refused exactly when the published limits hold
 --
@@ -15,17 +15,17 @@ use mathlib.Core.List.{List, _∷_, _++_, List·Memᴰ}
 use Rattle.plan.specs.Refusals.{Line, planLines, refusal}
 use Rattle.plan.specs.Limits.{Limits}
 
-abbrev pub Unbroken : List Line → List ℕ → Type 0
-Unbroken ls b = (l : Line) → List·Memᴰ l ls → l .broken b ≡ false
+abbrev pub Unbroken : {A : Type 0} → List (Line A) → A → Type 0
+Unbroken {A} ls a = (l : Line A) → List·Memᴰ l ls → l .broken a ≡ false
 
-pub record FirstIn (ls : List Line) (b : List ℕ) (n : ℕ) : Type 0 where
-  pub before : List Line
-  pub line : Line
-  pub after : List Line
+pub record FirstIn {A : Type 0} (ls : List (Line A)) (a : A) (n : ℕ) : Type 0 where
+  pub before : List (Line A)
+  pub line : Line A
+  pub after : List (Line A)
   pub split : ls ≡ before ++ line ∷ after
   pub number : line .number ≡ n
-  pub broken : line .broken b ≡ true
-  pub unbroken : Unbroken before b
+  pub broken : line .broken a ≡ true
+  pub unbroken : Unbroken before a
 
 abbrev pub FirstClaim : Type 0
 FirstClaim = (b : List ℕ) (n : ℕ) → (refusal b ≡ n) ↔ (((n ≡ 0) × Unbroken planLines b) ⊎ FirstIn planLines b n)

@@ -3,10 +3,10 @@
 --   recordOf    the twelve bytes of a record, out of its six fields
 --   planP       the bytes of plan P
 use mathlib.Core.Path.{_≡_, refl}
-use mathlib.Core.Bool.{true, false}
+use mathlib.Core.Bool.{false}
 use Prim.Native.Nat.{ℕ, _/_, _%_}
 use mathlib.Core.List.{List, [], _∷_, _++_}
-use Rattle.plan.specs.declared.read.Literal.the-variants.{OfBelt, OfMode}
+use Rattle.plan.specs.declared.read.Literal.the-variants.{OfBelt}
 use Rattle.plan.specs.Lists.{joined}
 use Rattle.plan.specs.Records.{rowOf, fits, linksAt, links}
 use Rattle.plan.specs.Plan.{Belt, planOf, named}
@@ -52,5 +52,5 @@ P-names = refl
 
 -- every record above the junctions is reached once: the rule and its literals from record 0, the belts from the junctions
 P-reaches : reached planP ≡ 7 ∷ 8 ∷ 9 ∷ 4 ∷ 5 ∷ 6 ∷ []
-unfolding planP reached linksAt rowOf
+unfolding planP reached
 P-reaches = refl

@@ -5,5 +5,5 @@ pub mod Refusals
 pub mod Limits
 pub mod Claims
 pub mod Reading
-pub mod Marks
+pub mod Inner
 pub mod Examples

@@ -1,25 +1,31 @@
 -- The published limits, in the positive words of paper 01's "Plan bytes": what a plan has to be.
--- Nothing here goes by the refusal table or by its lines; that the two agree is a theorem (proofs/Claims.antt).
+-- Nothing here goes by the refusal table or by the table of records that its lines go by; that they agree is a theorem (Claims.antt).
 --
---   Sizes b         a run of N 12-byte records, at most 2,048
---   Header b        record 0
---   Junction, BeltForm, Rule, LiteralForm b r
---                   record r is one of that kind, with what the paper says of its fields
---   Kinds b         records 1 to J are junctions, those above are belts, rules and literals
---   Rising b        "an index in a chain or at its head is larger than that of the record holding it", and leads to its kind
---   reached b       every record met when the chain indices are followed from records 0 to J, as often as it is met
---   Limits b        all of it
+--   Sizes b             a run of N 12-byte records, at most 2,048
+--   Header b            record 0
+--   JunctionForm, BeltForm, RuleForm, LiteralForm b r
+--                       record r is one of that kind, with what the paper says of its fields
+--   Kinds b             records 1 to J are junctions, those above are belts, rules and literals
+--   Leads b r i k       the index i, held by record r, is 0 or that of a later record of kind k
+--   Rising b            "an index in a chain or at its head is larger than that of the record holding it", and leads to its kind
+--   chainFields k       the fields of a record of kind k that are chain indices
+--   held b r            the chain indices of record r that are not 0
+--   walk b n i          the records reached from record i in at most n steps, each as often as it is reached
+--   reached b           the records reached from records 0 to J
+--   Names b l           literal l names a belt record, or a mode from 1 to M
+--   Limits b            all of it
 --
 -- Assumes nothing.
 use Prim.Native.Nat.{ℕ, zero, suc, _*_, _≤_, _<_}
 use mathlib.Core.Path.{_≡_}
 use mathlib.Core.Logic.{_⊎_}
-use mathlib.Core.List.{List, [], _∷_, List·Memᴰ}
+use mathlib.Core.Bool.{Bool, true, false, not}
+use mathlib.Core.List.{List, [], _∷_, _++_, map, List·Memᴰ}
 use lib.ListN.{length}
 use lib.Dec.{eqb}
-use Rattle.plan.specs.Lists.{count, joined, upto}
-use Rattle.plan.specs.Records.{field, kind, junctions, modes, records, Link, linksAt}
-use Rattle.plan.specs.Plan.{Belt, Plan, planOf, named}
+use Rattle.plan.specs.Lists.{keep, count, joined, upto}
+use Rattle.plan.specs.Records.{field, kind, junctions, modes, records}
+use Rattle.plan.specs.Plan.{Belt, planOf, named}
 
 pub record Sizes (b : List ℕ) : Type 0 where
   pub whole : length b ≡ 12 * records b
@@ -33,7 +39,7 @@ pub record Header (b : List ℕ) : Type 0 where
   pub unused : field b 0 5 ≡ 0
   pub room : junctions b < records b
 
-pub record Junction (b : List ℕ) (r : ℕ) : Type 0 where
+pub record JunctionForm (b : List ℕ) (r : ℕ) : Type 0 where
   pub kind-1 : kind b r ≡ 1
   pub zero-2 : field b r 2 ≡ 0
   pub zero-3 : field b r 3 ≡ 0
@@ -47,7 +53,7 @@ pub record BeltForm (b : List ℕ) (r : ℕ) : Type 0 where
   pub zero-4 : field b r 4 ≡ 0
   pub zero-5 : field b r 5 ≡ 0
 
-pub record Rule (b : List ℕ) (r : ℕ) : Type 0 where
+pub record RuleForm (b : List ℕ) (r : ℕ) : Type 0 where
   pub kind-3 : kind b r ≡ 3
   pub zero-3 : field b r 3 ≡ 0
   pub zero-4 : field b r 4 ≡ 0
@@ -60,10 +66,9 @@ pub record LiteralForm (b : List ℕ) (r : ℕ) : Type 0 where
   pub zero-5 : field b r 5 ≡ 0
 
 pub record Kinds (b : List ℕ) : Type 0 where
-  pub low : (r : ℕ) → 1 ≤ r → r ≤ junctions b → Junction b r
-  pub high : (r : ℕ) → junctions b < r → r < records b → BeltForm b r ⊎ (Rule b r ⊎ LiteralForm b r)
+  pub low : (r : ℕ) → 1 ≤ r → r ≤ junctions b → JunctionForm b r
+  pub high : (r : ℕ) → junctions b < r → r < records b → BeltForm b r ⊎ (RuleForm b r ⊎ LiteralForm b r)
 
--- the index i, held by record r, is 0 or that of a later record of kind k
 abbrev pub Leads : List ℕ → ℕ → ℕ → ℕ → Type 0
 Leads b r i k = (i ≡ 0 → ⊥) → (r < i) × (i < records b) × (kind b i ≡ k)
 
@@ -75,15 +80,31 @@ pub record Rising (b : List ℕ) : Type 0 where
   pub first-literal : (r : ℕ) → r < records b → kind b r ≡ 3 → Leads b r (field b r 2) 4
   pub next-literal : (r : ℕ) → r < records b → kind b r ≡ 4 → Leads b r (field b r 1) 4
 
--- the records met from record i on, in at most n links: each that a link of i leads to, and those met from it
-abbrev pub met : List ℕ → ℕ → ℕ → List ℕ
-met b zero i = []
-met b (suc n) i = joined (λ (l : Link). l .index ∷ met b n (l .index)) (linksAt b i)
+abbrev pub picked : Bool → List ℕ → List ℕ
+picked true fs = fs
+picked false fs = []
+
+-- f3 of record 0 (the first rule), f1 of a junction (its first belt), f1 of a belt (the next one), f1 and f2 of a rule (the next rule
+-- and its first literal), f1 of a literal (the next one)
+abbrev pub chainFields : ℕ → List ℕ
+chainFields k =
+    picked (eqb k 7) (3 ∷ [])
+    ++ picked (eqb k 1) (1 ∷ [])
+    ++ picked (eqb k 2) (1 ∷ [])
+    ++ picked (eqb k 3) (1 ∷ 2 ∷ [])
+    ++ picked (eqb k 4) (1 ∷ [])
+
+abbrev pub held : List ℕ → ℕ → List ℕ
+held b r = keep (λ (i : ℕ). not (eqb i 0)) (map (field b r) (chainFields (kind b r)))
+
+-- each that record i leads to, and then those reached from it
+abbrev pub walk : List ℕ → ℕ → ℕ → List ℕ
+walk b zero i = []
+walk b (suc n) i = joined (λ (x : ℕ). x ∷ walk b n x) (held b i)
 
 unfoldable pub reached : List ℕ → List ℕ
-reached b = joined (met b (records b)) (upto 0 (suc (junctions b)))
+reached b = joined (walk b (records b)) (upto 0 (suc (junctions b)))
 
--- a literal names a belt record, or a mode from 1 to M
 pub record Names (b : List ℕ) (l : ℕ) : Type 0 where
   pub belt : field b l 3 ≡ 0 → (field b l 4 < records b) × (kind b (field b l 4) ≡ 2)
   pub mode : field b l 3 ≡ 1 → (1 ≤ field b l 4) × (field b l 4 ≤ modes b)

@@ -3,14 +3,14 @@
 --   any f xs      some element of xs passes the test f
 --   all f xs      every element passes
 --   keep f xs     the elements that pass, in their order
---   count f xs    how many pass
+--   count f xs    how many pass (kept and counted: one step of each, by the test's answer)
 --   mem n xs      the number n is among xs
 --   joined f xs   the lists f x, for x in xs, one after the other
---   upto lo hi    the numbers lo, lo + 1, .. below hi
+--   upto lo hi    the numbers lo, lo + 1, .. below hi; run i n: n numbers from i on
 --   within a n z  a ≤ n ≤ z
 --
 -- Not here: laws about them (proofs/Lists.antt). Assumes nothing.
-use Prim.Native.Nat.{ℕ, zero, suc, _+_, _-_}
+use Prim.Native.Nat.{ℕ, zero, suc, _-_}
 use mathlib.Core.Bool.{Bool, true, false, _&&_, _||_}
 use mathlib.Core.List.{List, [], _∷_, _++_}
 use lib.Dec.{eqb, leb}
@@ -23,7 +23,6 @@ abbrev pub all : {A : Type 0} → (A → Bool) → List A → Bool
 all f [] = true
 all f (x ∷ xs) = f x && all f xs
 
--- x in front of xs where the test passed
 abbrev pub kept : {A : Type 0} → Bool → A → List A → List A
 kept true x xs = x ∷ xs
 kept false x xs = xs
@@ -32,7 +31,6 @@ abbrev pub keep : {A : Type 0} → (A → Bool) → List A → List A
 keep f [] = []
 keep f (x ∷ xs) = kept (f x) x (keep f xs)
 
--- one more where the test passed
 abbrev pub counted : Bool → ℕ → ℕ
 counted true n = suc n
 counted false n = n
@@ -48,7 +46,6 @@ abbrev pub joined : {A B : Type 0} → (A → List B) → List A → List B
 joined f [] = []
 joined f (x ∷ xs) = f x ++ joined f xs
 
--- n numbers from i on
 abbrev pub run : ℕ → ℕ → List ℕ
 run i zero = []
 run i (suc n) = i ∷ run (suc i) n

@@ -3,10 +3,14 @@
 --   Belt            a belt: its name (the index of its record), where it leaves, where it leads, its cost
 --   Literal         a belt or a mode, wanted (true) or unwanted (false); declared by the code (src/read.rt)
 --   Plan            counts of junctions and modes, the belts in rising index, the rules as lists of literals in chain order
---   planOf b        the plan that the bytes b describe
---   leaves b e      the junction whose chain has belt e
+--   planOf b        the plan that the bytes b describe, put together from their records:
+--     leaves b e    the junction whose chain has belt e
+--     beltAt b e, literalAt b l, ruleAt b r
+--                   the belt, the literal and the rule of a record; beltRecords b: the records that are belts
 --   leaving p j     the belts of p that leave junction j, in rising index
+--   names e l       literal l is about belt e; inRule e rule: some literal of the rule is
 --   named p         the belts in some rule (paper 01's "named belts"), in rising index, each once
+--   beltId e        the belt number e, as the code has it
 --   listed ns       the named belts ns as an array of 48, the rest of it 0
 --   placeOf ns e    the place of belt e among the named belts ns, counted from 0, if it is one of them
 --   placesOf ns     the places of all belt indices, as an array of 2,048 bytes: 0 is no place, k + 1 is place k
@@ -19,7 +23,6 @@ use mathlib.Core.List.{List, [], _∷_, _++_, map}
 use lib.ListN.{length, getD, replicate}
 use lib.Dec.{eqb, ltb}
 use Rattle.plan.specs.declared.read.BeltId.{BeltId}
-use Rattle.plan.specs.declared.read.ModeId.{ModeId}
 use Rattle.plan.specs.declared.read.Literal.{Literal}
 use Rattle.plan.specs.declared.read.Literal.the-variants.{OfBelt, OfMode}
 use Rattle.plan.specs.declared.named.Place.{Place}
@@ -52,7 +55,6 @@ leaves b e = firstIn (λ (j : ℕ). mem e (chain b (field b j 1))) (upto 1 (suc 
 abbrev pub beltAt : List ℕ → ℕ → Belt
 beltAt b e = record { name = e; leaves = leaves b e; leads = field b e 2; cost = field b e 3 }
 
--- the records that are belts
 abbrev pub beltRecords : List ℕ → List ℕ
 beltRecords b = keep (λ (r : ℕ). eqb (kind b r) 2) (upto (suc (junctions b)) (records b))
 
@@ -80,7 +82,6 @@ planOf b = record {
 abbrev pub leaving : Plan → ℕ → List Belt
 leaving p j = keep (λ (e : Belt). eqb (e .leaves) j) (p .belts)
 
--- a literal is about belt e
 abbrev pub names : ℕ → Literal → Bool
 names e (OfBelt b wanted) = eqb e (b .0)
 names e (OfMode m wanted) = false

@@ -4,15 +4,17 @@
 --   kind b r        field 0
 --   junctions b, modes b, records b
 --                   J, M and N of record 0
---   Use             what a field may hold: anything, zero, a range, or a chain index to a kind of record
---   Row             the uses of fields 1 to 5
---   rows j          THE TABLE: the row of each kind of record, in a plan with j junctions
---   rowAt b r       the row of record r, by its kind
---   fits b r        every unused field of record r is zero and every ranged one is in its range
---   Link            a chain index that is not zero: who holds it, what it is, and the kind that it has to lead to
---   links b         those of the whole plan
 --   IsKind b k i    i is the index of a record of kind k
---   chain b i       the indices of the chain that starts at i: field 1 of each record is the next, zero ends it
+--   Use             what a field may hold: any value, zero, a range, or a chain index to a kind of record
+--   Row             the uses of fields 1 to 5; Entry: the row of a kind
+--   rows j          THE TABLE: the row of each kind of record, in a plan with j junctions
+--   rowOf j k       the row of kind k; rowAt b r: that of record r, by its kind; useAt row f: the use of field f
+--   allows u v      a field of use u may hold v, as far as that goes without looking at other records
+--   fits b r        every unused field of record r is zero and every ranged one is in its range
+--   Link            a chain index that is not zero: its holder, the index, and the kind that it wants
+--   linkTo, linkBy  the link, if any, that a value makes as a chain index, and as a field of some use
+--   linksAt b r     the links that record r holds; links b: those of the whole plan
+--   chain b i       the indices of the chain that starts at i: field 1 of each record is the next, zero ends it; chainOf: its first n
 --
 -- `Use` and `Row` are declared by the code (src/table.rt). Not here: what a broken plan is refused with (Refusals.antt).
 -- Assumes nothing.
@@ -69,7 +71,7 @@ abbrev pub chosen : Bool → Row → Row → Row
 chosen true a b = a
 chosen false a b = b
 
--- the row of kind k; a kind that is not in the table has no use for its fields
+-- a kind that is not in the table: any values (line 3 refuses it for its kind)
 abbrev pub rowIn : ℕ → List Entry → Row
 rowIn k [] = record { f1 = Any; f2 = Any; f3 = Any; f4 = Any; f5 = Any }
 rowIn k (e ∷ es) = chosen (eqb k (e .of)) (e .row) (rowIn k es)

@@ -1,23 +1,27 @@
 -- Lines 1 to 7 of paper 01's table "Causes of refusal", each a sentence of its own that is true where the line is broken,
 -- and the first broken one. They are Booleans, so that they compute.
 --
---   broken1 b .. broken7 b   the line is broken by the bytes b
---   Line                     a line of the table: its number and its sentence
---   planLines                lines 1 to 7, in the order in which they are asked
---   firstBroken ls b         the number of the first line of ls that b breaks, or 0
+--   broken1 b .. broken7 b   the line is broken by the bytes b. What they are made of:
+--     rightKind b r          record r is of a kind that may stand at its place (line 3)
+--     leadsWell, badLink     a link leads below N, above its holder and to the kind that it wants, or does not (line 4)
+--     pointers ls r          how many of the links ls lead to record r (line 4)
+--     backward b j           a belt on the chain of junction j does not lead to a higher one (line 5)
+--     literalFits b l        what literal l names is there; misnames b l: l is a literal and it is not (line 6)
+--   Line A                   a line about things of type A: its number, and the sentence that it is broken
+--   planLines                lines 1 to 7, in the order in which they count
+--   firstBroken ls a         the number of the first line of ls that a breaks, or 0
 --   refusal b                that of planLines: "the lower number wins over the whole plan"
 --   numberOf v               the paper's number for each case of the check's answer, 0 where it is accepted
 --
--- A sentence means what the paper says where the lines before it are unbroken; it is never asked elsewhere.
+-- A sentence means what the paper says where the lines before it are unbroken; elsewhere it decides nothing.
 -- Not here: the same limits in the paper's positive words (Limits.antt). Assumes nothing.
-use Prim.Native.Nat.{ℕ, zero, suc, _*_}
-use mathlib.Core.Path.{_≡_}
+use Prim.Native.Nat.{ℕ, suc, _*_}
 use mathlib.Core.Bool.{Bool, true, false, not, _&&_, _||_}
 use mathlib.Core.List.{List, [], _∷_}
 use lib.ListN.{length}
 use lib.Dec.{eqb, leb, ltb}
 use Rattle.plan.specs.declared.check.Verdict.{Verdict}
-use Rattle.plan.specs.declared.check.Verdict.the-variants.{Accepted, WrongSize, WrongHeader, WrongRecord, WrongChain, FallingBelt, WrongLiteral, ManyNamed}
+use Rattle.plan.specs.declared.check.Verdict.the-variants.{Accepted, WrongSize, WrongHeader, WrongRecord, WrongChain, BackwardBelt, WrongLiteral, ManyNamed}
 use Rattle.plan.specs.Lists.{any, count, mem, upto, within}
 use Rattle.plan.specs.Records.{field, kind, junctions, modes, records, fits, Link, links, chain}
 use Rattle.plan.specs.Plan.{planOf, named}
@@ -46,8 +50,8 @@ broken3 b = any (λ (r : ℕ). not (rightKind b r && fits b r)) (upto 1 (records
 abbrev pub leadsWell : List ℕ → Link → Bool
 leadsWell b l = ltb (l .index) (records b) && ltb (l .holder) (l .index) && eqb (kind b (l .index)) (l .want)
 
-abbrev pub astray : List ℕ → Link → Bool
-astray b l = not (leadsWell b l)
+abbrev pub badLink : List ℕ → Link → Bool
+badLink b l = not (leadsWell b l)
 
 -- how many links lead to record r
 abbrev pub pointers : List Link → ℕ → ℕ
@@ -57,16 +61,16 @@ pointers ls r = count (λ (l : Link). eqb (l .index) r) ls
 -- Where the indices rise and lead to the right kinds, a record is reached as often as it is pointed at (proofs/Reached.antt)
 unfoldable pub broken4 : List ℕ → Bool
 broken4 b =
-    any (astray b) (links b)
+    any (badLink b) (links b)
     || any (λ (r : ℕ). not (eqb (pointers (links b) r) 1)) (upto (suc (junctions b)) (records b))
 
 -- a belt on the chain of junction j does not lead higher
-abbrev pub falls : List ℕ → ℕ → Bool
-falls b j = any (λ (e : ℕ). leb (field b e 2) j) (chain b (field b j 1))
+abbrev pub backward : List ℕ → ℕ → Bool
+backward b j = any (λ (e : ℕ). leb (field b e 2) j) (chain b (field b j 1))
 
 -- 5: a belt not leading to a higher junction than the one that it leaves
 unfoldable pub broken5 : List ℕ → Bool
-broken5 b = any (falls b) (upto 1 (suc (junctions b)))
+broken5 b = any (backward b) (upto 1 (suc (junctions b)))
 
 -- a literal's field 4 is the index of a belt record, or a mode from 1 to M
 abbrev pub fitsBy : Bool → List ℕ → ℕ → Bool
@@ -83,31 +87,22 @@ misnames b l = eqb (kind b l) 4 && not (literalFits b l)
 unfoldable pub broken6 : List ℕ → Bool
 broken6 b = any (misnames b) (upto (suc (junctions b)) (records b))
 
--- no line is broken up to line 2, 4 or 6
-abbrev pub Passed2 : List ℕ → Type 0
-Passed2 b = (broken1 b ≡ false) × (broken2 b ≡ false)
-
-abbrev pub Passed4 : List ℕ → Type 0
-Passed4 b = Passed2 b × (broken3 b ≡ false) × (broken4 b ≡ false)
-
-abbrev pub Passed6 : List ℕ → Type 0
-Passed6 b = Passed4 b × (broken5 b ≡ false) × (broken6 b ≡ false)
-
 -- 7: over 48 named belts
 unfoldable pub broken7 : List ℕ → Bool
 broken7 b = ltb 48 (length (named (planOf b)))
 
 -- ---- the first broken line
 
-pub record Line : Type 0 where
+-- a line about things of type A
+pub record Line (A : Type 0) : Type 0 where
   pub number : ℕ
-  pub broken : List ℕ → Bool
+  pub broken : A → Bool
 
-abbrev pub firstBroken : List Line → List ℕ → ℕ
-firstBroken [] b = 0
-firstBroken (l ∷ ls) b = elim (l .broken b) [ true ↦ l .number | false ↦ firstBroken ls b ]
+abbrev pub firstBroken : {A : Type 0} → List (Line A) → A → ℕ
+firstBroken [] a = 0
+firstBroken (l ∷ ls) a = elim (l .broken a) [ true ↦ l .number | false ↦ firstBroken ls a ]
 
-abbrev pub planLines : List Line
+abbrev pub planLines : List (Line (List ℕ))
 planLines =
     record { number = 1; broken = broken1 }
     ∷ record { number = 2; broken = broken2 }
@@ -127,6 +122,6 @@ numberOf WrongSize = 1
 numberOf WrongHeader = 2
 numberOf WrongRecord = 3
 numberOf WrongChain = 4
-numberOf FallingBelt = 5
+numberOf BackwardBelt = 5
 numberOf WrongLiteral = 6
 numberOf ManyNamed = 7

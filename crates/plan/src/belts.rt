@@ -6,12 +6,13 @@ ghost use mathlib.Core.Path.{_≡_};
 ghost use Prim.Native.Nat.{_*_, _<_, _≤_};
 ghost use lib.ListN.{length};
 ghost use Rattle.plan.specs.Records.{records, junctions};
-ghost use Rattle.plan.specs.Refusals.{falls, broken5, literalFits, misnames, broken6, Passed2, Passed4};
+ghost use Rattle.plan.specs.Refusals.{backward, broken5, literalFits, misnames, broken6};
+ghost use Rattle.plan.specs.Inner.{Passed2, Passed4};
 
 // Whether a belt on the chain of junction j does not lead to a higher junction.
-fn falls(p: &[u8], j: usize) -> bool
+fn backward(p: &[u8], j: usize) -> bool
     requires { ⌜ Passed4 (now p) × (1 ≤ j) × (j ≤ junctions (now p)) ⌝ }
-    ensures { λ v. ⌜ v ≡ falls (now (p .entry)) j ⌝ }
+    ensures { λ v. ⌜ v ≡ backward (now (p .entry)) j ⌝ }
 {
     let mut belt = record::index(p, j, 1);
     while belt != 0 {
@@ -24,14 +25,14 @@ fn falls(p: &[u8], j: usize) -> bool
 }
 
 // Line 5: whether a belt does not lead to a higher junction than the one that it leaves.
-pub fn falling_belt(p: &[u8]) -> bool
+pub fn backward_belt(p: &[u8]) -> bool
     requires { ⌜ Passed4 (now p) ⌝ }
     ensures { λ v. ⌜ v ≡ broken5 (now (p .entry)) ⌝ }
 {
     let last = record::index(p, 0, 1);
     let mut j = 1;
     while j <= last {
-        if falls(p, j) {
+        if backward(p, j) {
             return true;
         }
         j += 1;

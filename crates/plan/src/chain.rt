@@ -5,12 +5,13 @@ use crate::table;
 use crate::table::Use;
 ghost use mathlib.Core.Path.{_≡_};
 ghost use mathlib.Core.Bool.{not};
-ghost use Prim.Native.Nat.{_+_, _*_, _<_, _≤_};
+ghost use Prim.Native.Nat.{_*_, _<_, _≤_};
 ghost use lib.ListN.{length};
 ghost use Rattle.plan.specs.Lists.{any, upto};
 ghost use Rattle.plan.specs.Records.{records, linkTo, linkBy, linksAt, links};
-ghost use Rattle.plan.specs.Refusals.{broken4, Passed2};
-ghost use Rattle.plan.specs.Marks.{bump, markedOnce, Followed};
+ghost use Rattle.plan.specs.Refusals.{broken4};
+ghost use Rattle.plan.specs.Inner.{Passed2};
+ghost use Rattle.plan.specs.Inner.{bump, markedOnce, Followed};
 
 // The mark of a record that is met once more: 0 not met, 1 met once, 2 met more than once.
 fn bump(mark: u8) -> u8
@@ -19,7 +20,7 @@ fn bump(mark: u8) -> u8
     if mark == 0 { 1 } else { 2 }
 }
 
-// Whether the chain index i, held by record r, leads astray from a record of the kind wanted; marks the record that it leads to.
+// Whether the chain index i, held by record r, does not lead to a later record of the kind wanted; marks the record that it leads to.
 fn follow_index(p: &[u8], seen: &mut [u8], n: usize, r: usize, i: usize, want: u16) -> bool
     requires { ⌜ (n ≡ records (now p)) × (12 * n ≤ length (now p)) × (n ≤ length (now seen)) ⌝ }
     ensures { λ v. ⌜ Followed (now (p .entry)) (linkTo r i want) (now (seen .entry)) (now (seen .exit)) v ⌝ }
@@ -40,7 +41,7 @@ fn follow_index(p: &[u8], seen: &mut [u8], n: usize, r: usize, i: usize, want: u
     false
 }
 
-// Whether the value v of a field of this use, held by record r, leads astray; marks the record that it leads to.
+// Whether the value v of a field of this use, held by record r, is wrong; marks the record that it leads to.
 fn follow(p: &[u8], seen: &mut [u8], n: usize, r: usize, v: usize, u: Use) -> bool
     requires { ⌜ (n ≡ records (now p)) × (12 * n ≤ length (now p)) × (n ≤ length (now seen)) ⌝ }
     ensures { λ t. ⌜ Followed (now (p .entry)) (linkBy u r v) (now (seen .entry)) (now (seen .exit)) t ⌝ }
@@ -53,7 +54,7 @@ fn follow(p: &[u8], seen: &mut [u8], n: usize, r: usize, v: usize, u: Use) -> bo
     }
 }
 
-// Whether a chain index of record r leads astray; marks the records that they lead to.
+// Whether a chain index of record r is wrong; marks the records that they lead to.
 fn follow_record(p: &[u8], seen: &mut [u8], n: usize, r: usize) -> bool
     requires { ⌜ (n ≡ records (now p)) × (12 * n ≤ length (now p)) × (n ≤ length (now seen)) × (r < n) ⌝ }
     ensures { λ v. ⌜ Followed (now (p .entry)) (linksAt (now (p .entry)) r) (now (seen .entry)) (now (seen .exit)) v ⌝ }
@@ -69,7 +70,7 @@ fn follow_record(p: &[u8], seen: &mut [u8], n: usize, r: usize) -> bool
     false
 }
 
-// Whether a chain index of the plan leads astray; marks the records that they lead to.
+// Whether a chain index of the plan is wrong; marks the records that they lead to.
 fn follow_all(p: &[u8], seen: &mut [u8], n: usize) -> bool
     requires { ⌜ (n ≡ records (now p)) × (12 * n ≤ length (now p)) × (n ≤ length (now seen)) ⌝ }
     ensures { λ v. ⌜ Followed (now (p .entry)) (links (now (p .entry))) (now (seen .entry)) (now (seen .exit)) v ⌝ }
@@ -99,7 +100,7 @@ fn unmet(seen: &[u8], lo: usize, n: usize) -> bool
     false
 }
 
-// Line 4: whether a chain index leads astray, or a record above the junctions is reached twice or never.
+// Line 4: whether a chain index is wrong, or a record above the junctions is reached twice or never.
 pub fn wrong_chain(p: &[u8]) -> bool
     requires { ⌜ Passed2 (now p) ⌝ }
     ensures { λ v. ⌜ v ≡ broken4 (now (p .entry)) ⌝ }

@@ -18,7 +18,7 @@ pub enum Verdict {
     // 4: a chain index, or a record reached twice or never
     WrongChain,
     // 5: a belt not leading to a higher junction
-    FallingBelt,
+    BackwardBelt,
     // 6: a literal naming no belt and no mode
     WrongLiteral,
     // 7: over 48 named belts
@@ -41,8 +41,8 @@ pub fn check(p: &[u8]) -> Verdict
     if chain::wrong_chain(p) {
         return Verdict::WrongChain;
     }
-    if belts::falling_belt(p) {
-        return Verdict::FallingBelt;
+    if belts::backward_belt(p) {
+        return Verdict::BackwardBelt;
     }
     if belts::wrong_literal(p) {
         return Verdict::WrongLiteral;
@@ -63,7 +63,7 @@ pub fn number(v: Verdict) -> u8
         Verdict::WrongHeader => 2,
         Verdict::WrongRecord => 3,
         Verdict::WrongChain => 4,
-        Verdict::FallingBelt => 5,
+        Verdict::BackwardBelt => 5,
         Verdict::WrongLiteral => 6,
         Verdict::ManyNamed => 7,
     }

@@ -11,7 +11,8 @@ ghost use mathlib.Core.Bool.{false};
 ghost use Prim.Native.Nat.{_+_, _*_, _≤_};
 ghost use lib.ListN.{length};
 ghost use Rattle.plan.specs.Records.{field, fits};
-ghost use Rattle.plan.specs.Refusals.{broken1, broken2, broken3, rightKind, Passed2};
+ghost use Rattle.plan.specs.Refusals.{broken1, broken2, broken3, rightKind};
+ghost use Rattle.plan.specs.Inner.{Passed2};
 
 // Line 1: whether the plan is under 24 or over 24,576 bytes, or not 12 times its count of records.
 pub fn wrong_size(p: &[u8]) -> bool

@@ -6,8 +6,9 @@ ghost use Prim.Native.Nat.{suc, _+_, _*_, _≤_};
 ghost use lib.ListN.{length};
 ghost use Rattle.plan.specs.Lists.{count, upto};
 ghost use Rattle.plan.specs.Records.{records, junctions};
-ghost use Rattle.plan.specs.Refusals.{broken7, Passed6};
-ghost use Rattle.plan.specs.Marks.{markedOnce, namesBelt, noted};
+ghost use Rattle.plan.specs.Refusals.{broken7};
+ghost use Rattle.plan.specs.Inner.{Passed6};
+ghost use Rattle.plan.specs.Inner.{markedOnce, namesBelt, noted};
 
 // Whether record l is a literal of a belt.
 fn names_belt(p: &[u8], l: usize) -> bool

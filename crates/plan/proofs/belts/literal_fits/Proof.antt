@@ -1,13 +1,10 @@
 -- `plan::belts::literal_fits` meets its contract. Assumes nothing.
-use mathlib.Core.Path.{_≡_, sym, ap, _∙_}
-use mathlib.Core.Bool.{Bool, _&&_}
-use Prim.Native.Nat.{ℕ}
-use mathlib.Core.List.{List}
+use mathlib.Core.Path.{sym, ap, _∙_}
+use mathlib.Core.Bool.{_&&_}
 use borrow.Author.Needs.{needs}
-use borrow.Author.Tests.{eq-eqb, ne-eqb, lt-ltb, le-ltb, le-leb, lt-leb}
+use borrow.Author.Tests.{lt-ltb, le-ltb, le-leb, lt-leb}
 use native.Mathlib.Omega.{arith}
-use lib.Dec.{eqb, leb, ltb}
-use Rattle.plan.specs.Lists.{within}
+use lib.Dec.{eqb, leb}
 use Rattle.plan.specs.Records.{field, kind, records, modes}
 use Rattle.plan.proofs.Literals.{fits-belt, fits-mode}
 use Rattle.plan.proofs.belts.literal_fits.Statement.{statement}

@@ -2,7 +2,7 @@
 use mathlib.Core.Path.{_≡_, refl, sym}
 use Prim.Native.Nat.{ℕ, zero, suc}
 use borrow.Author.Needs.{needs}
-use Rattle.plan.specs.Marks.{bump}
+use Rattle.plan.specs.Inner.{bump}
 use Rattle.plan.proofs.chain.bump.Statement.{statement}
 use Rattle.plan.proofs.chain.bump.Tie as tie
 

@@ -3,8 +3,8 @@ use mathlib.Core.Path.{sym, ap, _∙_}
 use borrow.Author.Needs.{needs}
 use Rattle.plan.specs.Lists.{any}
 use Rattle.plan.specs.Records.{linkBy}
-use Rattle.plan.specs.Refusals.{astray}
-use Rattle.plan.specs.Marks.{marked}
+use Rattle.plan.specs.Refusals.{badLink}
+use Rattle.plan.specs.Inner.{marked}
 use Rattle.plan.proofs.chain.follow.Statement.{statement}
 use Rattle.plan.proofs.chain.follow.Tie as tie
 
@@ -27,19 +27,19 @@ returns : tie.Need-returns
 returns c =
     let a = c .before .before .before .before .args in
     let e = c .enum-told .given .1 in
-    (sym (ap (λ u. any (astray (a .p .now)) (linkBy u (a .r) (a .v))) e), λ t. sym (ap (λ u. marked (a .seen .now) (linkBy u (a .r) (a .v))) e))
+    (sym (ap (λ u. any (badLink (a .p .now)) (linkBy u (a .r) (a .v))) e), λ t. sym (ap (λ u. marked (a .seen .now) (linkBy u (a .r) (a .v))) e))
 
 returns-2 : tie.Need-returns-2
 returns-2 c =
     let a = c .before .before .before .before .args in
     let e = c .enum-told2 .given .1 in
-    (sym (ap (λ u. any (astray (a .p .now)) (linkBy u (a .r) (a .v))) e), λ t. sym (ap (λ u. marked (a .seen .now) (linkBy u (a .r) (a .v))) e))
+    (sym (ap (λ u. any (badLink (a .p .now)) (linkBy u (a .r) (a .v))) e), λ t. sym (ap (λ u. marked (a .seen .now) (linkBy u (a .r) (a .v))) e))
 
 returns-3 : tie.Need-returns-3
 returns-3 c =
     let a = c .before .before .before .before .args in
     let e = c .enum-told3 .given .1 in
-    (sym (ap (λ u. any (astray (a .p .now)) (linkBy u (a .r) (a .v))) e), λ t. sym (ap (λ u. marked (a .seen .now) (linkBy u (a .r) (a .v))) e))
+    (sym (ap (λ u. any (badLink (a .p .now)) (linkBy u (a .r) (a .v))) e), λ t. sym (ap (λ u. marked (a .seen .now) (linkBy u (a .r) (a .v))) e))
 
 same-length : tie.Need-same-length
 same-length c = search needs
@@ -50,7 +50,7 @@ returns-4 c =
     let a = told .before .before .before .before .args in
     let e = told .u .given .1 in
     let found = c .before .before .follow-index .ensures in (
-      found .0 ∙ sym (ap (λ u. any (astray (a .p .now)) (linkBy u (a .r) (a .v))) e),
+      found .0 ∙ sym (ap (λ u. any (badLink (a .p .now)) (linkBy u (a .r) (a .v))) e),
       λ t. found .1 t ∙ sym (ap (λ u. marked (a .seen .now) (linkBy u (a .r) (a .v))) e),
     )
 

@@ -1,14 +1,13 @@
 -- `plan::chain::follow_all` meets its contract: the records from r on decide, and mark, as all of them do. Assumes nothing.
 use mathlib.Core.Path.{_≡_, refl, sym, ap, _∙_}
-use mathlib.Core.Bool.{true, false, true≢false}
-use Prim.Native.Nat.{ℕ, _≤_, _+_, _-_}
+use mathlib.Core.Bool.{true≢false}
+use Prim.Native.Nat.{_+_, _-_}
 use borrow.Author.Needs.{needs}
-use native.Mathlib.Omega.{arith}
 use lib.ListN.{length}
 use Rattle.plan.specs.Lists.{any, joined, upto}
 use Rattle.plan.specs.Records.{linksAt, links}
-use Rattle.plan.specs.Refusals.{astray}
-use Rattle.plan.specs.Marks.{marked}
+use Rattle.plan.specs.Refusals.{badLink}
+use Rattle.plan.specs.Inner.{marked}
 use Rattle.plan.proofs.Marks.{pass-stop, pass-next, pass-done, marks-next, marks-done}
 use Rattle.plan.proofs.chain.follow_all.Statement.{statement}
 use Rattle.plan.proofs.chain.follow_all.Tie as tie
@@ -16,7 +15,7 @@ use Rattle.plan.proofs.chain.follow_all.Tie as tie
 abbrev Inv-loop : tie.InvT-loop
 Inv-loop p seen₀ n r₀ seen r =
     (length seen ≡ length seen₀)
-    × (any (astray p) (joined (linksAt p) (upto r n)) ≡ any (astray p) (links p))
+    × (any (badLink p) (joined (linksAt p) (upto r n)) ≡ any (badLink p) (links p))
     × (marked seen (joined (linksAt p) (upto r n)) ≡ marked seen₀ (links p))
 
 abbrev μ-loop : tie.MeasureT-loop
@@ -27,7 +26,7 @@ unfolding links
 loop-holds c =
     let a = c .before .before .args in
     let e = c .before .before .pre .0 in
-    (refl, ap (λ n. any (astray (a .p .now)) (joined (linksAt (a .p .now)) (upto 0 n))) e, ap (λ n. marked (a .seen .now) (joined (linksAt (a .p .now)) (upto 0 n))) e)
+    (refl, ap (λ n. any (badLink (a .p .now)) (joined (linksAt (a .p .now)) (upto 0 n))) e, ap (λ n. marked (a .seen .now) (joined (linksAt (a .p .now)) (upto 0 n))) e)
 
 follow-record-requires : tie.Need-follow-record-requires Inv-loop μ-loop
 follow-record-requires c κs = search needs
@@ -41,7 +40,7 @@ returns c =
     let loop = follow .before .before in
     let a = loop .before .before .before .before .args in
     let t = sym (follow .follow-record .ensures .0) ∙ c .if1 .taken in (
-      sym (pass-stop (astray (a .p .now)) (linksAt (a .p .now)) (loop .before .loop .r) (a .n) (loop .loop-test .taken) t) ∙ loop .before .loop .inv .1,
+      sym (pass-stop (badLink (a .p .now)) (linksAt (a .p .now)) (loop .before .loop .r) (a .n) (loop .loop-test .taken) t) ∙ loop .before .loop .inv .1,
       λ e. absurd (true≢false e),
     )
 
@@ -60,7 +59,7 @@ loop-again c =
     let inv = loop .before .loop .inv in
     let t = sym (follow .follow-record .ensures .0) ∙ c .if1 .left in (
       follow .follow-record .kept .1 .0 ∙ inv .0,
-      pass-next (astray (a .p .now)) (linksAt (a .p .now)) r (a .n) (loop .loop-test .taken) t ∙ inv .1,
+      pass-next (badLink (a .p .now)) (linksAt (a .p .now)) r (a .n) (loop .loop-test .taken) t ∙ inv .1,
       ap (λ seen. marked seen (joined (linksAt (a .p .now)) (upto (r + 1) (a .n)))) (follow .follow-record .ensures .1 (c .if1 .left))
           ∙ marks-next (loop .before .loop .seen) (linksAt (a .p .now)) r (a .n) (loop .loop-test .taken)
           ∙ inv .2,
@@ -73,7 +72,7 @@ returns-2 : tie.Need-returns-2 Inv-loop μ-loop
 returns-2 c =
     let a = c .before .before .before .before .args in
     let inv = c .before .loop .inv in (
-      sym (pass-done (astray (a .p .now)) (linksAt (a .p .now)) (c .before .loop .r) (a .n) (c .loop-test .left)) ∙ inv .1,
+      sym (pass-done (badLink (a .p .now)) (linksAt (a .p .now)) (c .before .loop .r) (a .n) (c .loop-test .left)) ∙ inv .1,
       λ t. sym (marks-done (c .before .loop .seen) (linksAt (a .p .now)) (c .before .loop .r) (a .n) (c .loop-test .left)) ∙ inv .2,
     )
 

@@ -1,12 +1,12 @@
 -- `plan::chain::unmet` meets its contract: the records from r on decide as all of them do. Assumes nothing.
 use mathlib.Core.Path.{_≡_, refl, sym, ap, _∙_}
-use mathlib.Core.Bool.{Bool, true, false, not}
-use Prim.Native.Nat.{ℕ, _≤_, _-_}
+use mathlib.Core.Bool.{Bool, not}
+use Prim.Native.Nat.{ℕ, _-_}
 use mathlib.Core.List.{List}
 use borrow.Author.Needs.{needs}
 use borrow.Author.Tests.{eq-eqb, ne-eqb}
 use Rattle.plan.specs.Lists.{any, upto}
-use Rattle.plan.specs.Marks.{markedOnce}
+use Rattle.plan.specs.Inner.{markedOnce}
 use Rattle.plan.proofs.Lists.{any-stop, any-next, any-done}
 use Rattle.plan.proofs.chain.unmet.Statement.{statement}
 use Rattle.plan.proofs.chain.unmet.Tie as tie

@@ -1,16 +1,15 @@
 -- `plan::chain::wrong_chain` meets its contract: the marks after all links say which records one link leads to. Assumes nothing.
-use mathlib.Core.Path.{_≡_, sym, ap, _∙_}
+use mathlib.Core.Path.{sym, ap, _∙_}
 use mathlib.Core.Bool.{not, _||_}
-use Prim.Native.Nat.{ℕ, suc, _+_, _*_, _≤_}
+use Prim.Native.Nat.{suc, _+_}
 use borrow.Author.Needs.{needs}
 use native.Mathlib.Omega.{arith}
 use native.Mathlib.Numerals.{add-one}
-use lib.ListN.{length}
 use lib.Dec.{eqb}
 use Rattle.plan.specs.Lists.{any, upto}
 use Rattle.plan.specs.Records.{records, junctions, links}
 use Rattle.plan.specs.Refusals.{pointers, broken4}
-use Rattle.plan.specs.Marks.{markedOnce}
+use Rattle.plan.specs.Inner.{markedOnce}
 use Rattle.plan.proofs.Forms.{sized}
 use Rattle.plan.proofs.Marks.{unmet-same}
 use Rattle.plan.proofs.chain.wrong_chain.Statement.{statement}
@@ -28,7 +27,7 @@ follow-all-requires c κs =
     let n = c .before .records .ensures .0 in
     (n, omega arith, omega arith)
 
--- line 4 is broken by a link that leads astray
+-- line 4 is broken by a link that is wrong
 returns : tie.Need-returns
 unfolding broken4
 returns c =

@@ -1,9 +1,10 @@
 -- `plan::check::check` meets its contract: the lines are asked in their order, and what an unbroken line says is what the next one needs.
 -- Assumes nothing.
 use mathlib.Core.Path.{_≡_, sym, _∙_}
-use mathlib.Core.Bool.{true, false}
+use mathlib.Core.Bool.{false}
 use borrow.Author.Needs.{needs}
-use Rattle.plan.specs.Refusals.{broken1, broken3, broken5, Passed2, Passed4, Passed6}
+use Rattle.plan.specs.Refusals.{broken1, broken3, broken5}
+use Rattle.plan.specs.Inner.{Passed2, Passed4, Passed6}
 use Rattle.plan.proofs.Accepted.{refused-1, refused-2, refused-3, refused-4, refused-5, refused-6, refused-7, passed-accepted}
 use Rattle.plan.proofs.check.check.Statement.{statement}
 use Rattle.plan.proofs.check.check.Tie as tie
@@ -23,7 +24,7 @@ past-4 : (c : tie.Else4) → Passed4 (c .before .before .before .before .before 
 past-4 c = (past-2 (c .before .before .before .before), past-3 (c .before .before), sym (c .before .wrong-chain .ensures) ∙ c .if4 .left)
 
 past-5 : (c : tie.Else5) → broken5 (c .before .before .before .before .before .before .before .before .before .before .before .args .p .now) ≡ false
-past-5 c = sym (c .before .falling-belt .ensures) ∙ c .if5 .left
+past-5 c = sym (c .before .backward-belt .ensures) ∙ c .if5 .left
 
 past-6 : (c : tie.Else6) → Passed6 (c .before .before .before .before .before .before .before .before .before .before .before .before .before .args .p .now)
 past-6 c = (past-4 (c .before .before .before .before), past-5 (c .before .before), sym (c .before .wrong-literal .ensures) ∙ c .if6 .left)
@@ -54,11 +55,11 @@ wrong-chain-requires c κs = past-2 (c .before .before)
 returns-4 : tie.Need-returns-4
 returns-4 c = sym (refused-4 _ (past-2 (c .before .before .before .before)) (past-3 (c .before .before)) (sym (c .before .wrong-chain .ensures) ∙ c .if4 .taken))
 
-falling-belt-requires : tie.Need-falling-belt-requires
-falling-belt-requires c κs = past-4 c
+backward-belt-requires : tie.Need-backward-belt-requires
+backward-belt-requires c κs = past-4 c
 
 returns-5 : tie.Need-returns-5
-returns-5 c = sym (refused-5 _ (past-4 (c .before .before)) (sym (c .before .falling-belt .ensures) ∙ c .if5 .taken))
+returns-5 c = sym (refused-5 _ (past-4 (c .before .before)) (sym (c .before .backward-belt .ensures) ∙ c .if5 .taken))
 
 wrong-literal-requires : tie.Need-wrong-literal-requires
 wrong-literal-requires c κs = past-2 (c .before .before .before .before .before .before)
@@ -87,7 +88,7 @@ check-spec =
     returns-3
     wrong-chain-requires
     returns-4
-    falling-belt-requires
+    backward-belt-requires
     returns-5
     wrong-literal-requires
     returns-6

@@ -1,6 +1,6 @@
 -- `plan::form::fits` meets its contract: the fields from f on that are still to be tested decide as all of them do. Assumes nothing.
 use mathlib.Core.Path.{_≡_, refl, sym, _∙_, ap}
-use mathlib.Core.Bool.{Bool, true, false}
+use mathlib.Core.Bool.{Bool}
 use Prim.Native.Nat.{ℕ, _≤_, _-_}
 use mathlib.Core.List.{List}
 use borrow.Author.Needs.{needs}
@@ -11,8 +11,6 @@ use Rattle.plan.specs.Records.{field, rowOf, rowAt, useAt, allows, fits}
 use Rattle.plan.proofs.Lists.{all-stop, all-next, all-done}
 use Rattle.plan.proofs.form.fits.Statement.{statement}
 use Rattle.plan.proofs.form.fits.Tie as tie
-use Rattle.plan.proofs.form.fits.Reads as reads
-use Rattle.plan.proofs.form.fits.Lts as lts
 
 abbrev suits : List ℕ → ℕ → ℕ → Bool
 suits p r f = allows (useAt (rowAt p r) f) (field p r f)

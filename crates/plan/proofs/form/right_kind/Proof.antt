@@ -9,8 +9,6 @@ use Rattle.plan.specs.Records.{kind}
 use Rattle.plan.proofs.Forms.{kind-low, kind-high}
 use Rattle.plan.proofs.form.right_kind.Statement.{statement}
 use Rattle.plan.proofs.form.right_kind.Tie as tie
-use Rattle.plan.proofs.form.right_kind.Reads as reads
-use Rattle.plan.proofs.form.right_kind.Lts as lts
 
 field-requires : tie.Need-field-requires
 field-requires c κs = search needs

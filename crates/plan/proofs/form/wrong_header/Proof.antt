@@ -1,14 +1,13 @@
 -- `plan::form::wrong_header` meets its contract: each return rewrites line 2 by the tests that led there. Assumes nothing.
-use mathlib.Core.Path.{_≡_, ap, sym, _∙_}
-use mathlib.Core.Bool.{Bool, true, false, not, _&&_}
+use mathlib.Core.Path.{_≡_, sym, _∙_}
+use mathlib.Core.Bool.{false, not}
 use Prim.Native.Nat.{ℕ, _≤_}
 use mathlib.Core.List.{List}
-use borrow.Author.Needs.{needs}
 use borrow.Author.Tests.{eq-eqb, ne-eqb, not-true, not-false}
 use native.Mathlib.Omega.{arith}
 use lib.ListN.{length}
-use lib.Dec.{eqb, leb, ltb}
-use Rattle.plan.specs.Records.{field, kind, fits}
+use lib.Dec.{ltb}
+use Rattle.plan.specs.Records.{field}
 use Rattle.plan.specs.Refusals.{broken1, broken2}
 use Rattle.plan.proofs.Lists.{leb-not}
 use Rattle.plan.proofs.Forms.{sized}

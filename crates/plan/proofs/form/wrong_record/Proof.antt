@@ -1,6 +1,6 @@
 -- `plan::form::wrong_record` meets its contract: the records from r on decide as all of them do. Assumes nothing.
-use mathlib.Core.Path.{_≡_, refl, ap, sym, _∙_}
-use mathlib.Core.Bool.{Bool, true, false, not, _&&_}
+use mathlib.Core.Path.{_≡_, ap, sym, _∙_}
+use mathlib.Core.Bool.{Bool, not, _&&_}
 use Prim.Native.Nat.{ℕ, _*_, _+_, _-_, _≤_, _<_}
 use mathlib.Core.List.{List}
 use borrow.Author.Needs.{needs}
@@ -9,13 +9,12 @@ use native.Mathlib.Omega.{arith}
 use lib.ListN.{length}
 use Rattle.plan.specs.Lists.{any, upto}
 use Rattle.plan.specs.Records.{field, records, junctions, fits}
-use Rattle.plan.specs.Refusals.{broken3, rightKind, Passed2}
+use Rattle.plan.specs.Refusals.{broken3, rightKind}
+use Rattle.plan.specs.Inner.{Passed2}
 use Rattle.plan.proofs.Lists.{any-stop, any-next, any-done}
-use Rattle.plan.proofs.Forms.{sized}
+use Rattle.plan.proofs.Forms.{sized, there}
 use Rattle.plan.proofs.form.wrong_record.Statement.{statement}
 use Rattle.plan.proofs.form.wrong_record.Tie as tie
-use Rattle.plan.proofs.form.wrong_record.Reads as reads
-use Rattle.plan.proofs.form.wrong_record.Lts as lts
 
 -- record r is wrong
 abbrev wrong : List ℕ → ℕ → Bool
@@ -29,7 +28,7 @@ abbrev μ-loop : tie.MeasureT-loop
 
 -- a record below N is there
 room : (p : List ℕ) → Passed2 p → (n r : ℕ) → n ≡ records p → r < n → 12 * r + 12 ≤ length p
-room p h n r e l = let s = sized p (h .0) in omega arith
+room p h n r e l = there p (h .0) r (omega arith)
 
 records-requires : tie.Need-records-requires Inv-loop μ-loop
 records-requires c κs = let s = sized _ (c .before .pre .0) in omega arith

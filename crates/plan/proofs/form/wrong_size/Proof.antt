@@ -1,11 +1,6 @@
 -- `plan::form::wrong_size` meets its contract: each return rewrites line 1 by the tests that led there. Assumes nothing.
-use mathlib.Core.Path.{ap, sym, _∙_}
-use mathlib.Core.Bool.{not}
-use Prim.Native.Nat.{ℕ, _*_}
 use borrow.Author.Needs.{needs}
 use borrow.Author.Tests.{le-leb, lt-leb}
-use lib.ListN.{length}
-use lib.Dec.{eqb}
 use Rattle.plan.specs.Refusals.{broken1}
 use Rattle.plan.proofs.form.wrong_size.Statement.{statement}
 use Rattle.plan.proofs.form.wrong_size.Tie as tie

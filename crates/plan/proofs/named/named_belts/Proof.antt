@@ -11,10 +11,10 @@ use lib.ListN.{length, getD, replicate}
 use lib.Seq.{sets}
 use Rattle.plan.specs.Lists.{keep, upto}
 use Rattle.plan.specs.Plan.{planOf, named, beltId, listed}
-use Rattle.plan.specs.Marks.{markedOnce}
+use Rattle.plan.specs.Inner.{markedOnce}
 use Rattle.plan.proofs.Counts.{keep-first, keep-rest, keep-done}
-use Rattle.plan.proofs.Forms.{sized}
-use Rattle.plan.proofs.Naming.{few, few-named, kept-named}
+use Rattle.plan.proofs.Forms.{few, sized}
+use Rattle.plan.proofs.Naming.{few-named, kept-named}
 use Rattle.plan.proofs.Accepted.{accepted-passed}
 use Rattle.plan.proofs.Places.{listed-sets}
 use Rattle.plan.proofs.named.named_belts.Statement.{statement}
@@ -49,7 +49,7 @@ loop-holds c =
 small : (c : tie.In-loop Inv-loop μ-loop) → c .before .loop .e < 2048
 small c =
     let start = c .before .before .before .before .before .before .before in
-    omega (arith, c .loop-test .taken, c .before .before .records .ensures .0, few _ (accepted-passed _ (start .pre .unrefused) .0))
+    omega (arith, c .loop-test .taken, c .before .before .records .ensures .0, few _ (accepted-passed _ (start .pre .unrefused) .0 .0 .0 .0))
 
 array-read-if1 : tie.Need-array-read-if1 Inv-loop μ-loop
 array-read-if1 c = small c

@@ -7,7 +7,7 @@ use borrow.Author.Tests.{eq-eqb, ne-eqb}
 use native.Mathlib.Omega.{arith}
 use lib.ListN.{getD}
 use Rattle.plan.specs.Lists.{counted, count, upto}
-use Rattle.plan.specs.Marks.{markedOnce}
+use Rattle.plan.specs.Inner.{markedOnce}
 use Rattle.plan.proofs.Counts.{count-step, count-done}
 use Rattle.plan.proofs.notes.count_marks.Statement.{statement}
 use Rattle.plan.proofs.notes.count_marks.Tie as tie

@@ -5,10 +5,10 @@ use native.Mathlib.Omega.{arith}
 use lib.ListN.{length}
 use lib.Dec.{ltb}
 use Rattle.plan.specs.Lists.{count, upto}
-use Rattle.plan.specs.Marks.{markedOnce, notes}
+use Rattle.plan.specs.Inner.{markedOnce, notes}
 use Rattle.plan.specs.Refusals.{broken7}
-use Rattle.plan.proofs.Forms.{sized}
-use Rattle.plan.proofs.Naming.{few, length-notes, named-count}
+use Rattle.plan.proofs.Forms.{few, sized}
+use Rattle.plan.proofs.Naming.{length-notes, named-count}
 use Rattle.plan.proofs.notes.many_named.Statement.{statement}
 use Rattle.plan.proofs.notes.many_named.Tie as tie
 
@@ -35,7 +35,7 @@ count-marks-requires c κs =
     let start = noted .before .before .before in
     let p = start .args .p .now in
     let size : length (noted .note-named .last .1 .0) ≡ 2048 = ap length (marks-are noted) ∙ length-notes p in
-    omega (arith, few p (start .pre), c .records .ensures .0)
+    omega (arith, few p (start .pre .0 .0 .0), c .records .ensures .0)
 
 returns : tie.Need-returns
 unfolding broken7

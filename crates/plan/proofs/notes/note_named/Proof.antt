@@ -9,9 +9,9 @@ use native.Mathlib.Numerals.{add-one}
 use lib.ListN.{length, set}
 use Rattle.plan.specs.Lists.{upto}
 use Rattle.plan.specs.Records.{field, junctions, records}
-use Rattle.plan.specs.Marks.{namesBelt, note, noted}
-use Rattle.plan.proofs.Forms.{sized}
-use Rattle.plan.proofs.Naming.{names-record, few, room, noted-step, noted-done, length-note}
+use Rattle.plan.specs.Inner.{namesBelt, note, noted}
+use Rattle.plan.proofs.Forms.{few, there, sized}
+use Rattle.plan.proofs.Naming.{names-record, noted-step, noted-done, length-note}
 use Rattle.plan.proofs.notes.note_named.Statement.{statement}
 use Rattle.plan.proofs.notes.note_named.Tie as tie
 
@@ -45,13 +45,13 @@ loop-holds c =
 names-belt-requires : tie.Need-names-belt-requires Inv-loop μ-loop
 names-belt-requires c κs =
     let start = c .before .before .before .before .before .before in
-    room _ (start .pre .0) _ (omega (arith, c .loop-test .taken, c .before .loop .inv .0))
+    there _ (start .pre .0 .0 .0 .0) _ (omega (arith, c .loop-test .taken, c .before .loop .inv .0))
 
 index-requires-2 : tie.Need-index-requires-2 Inv-loop μ-loop
 index-requires-2 c κs =
     let loop = c .before .before in
     let start = loop .before .before .before .before .before .before in
-    (omega arith, room _ (start .pre .0) _ (omega (arith, loop .loop-test .taken, loop .before .loop .inv .0)))
+    (omega arith, there _ (start .pre .0 .0 .0 .0) _ (omega (arith, loop .loop-test .taken, loop .before .loop .inv .0)))
 
 slice-write-marks : tie.Need-slice-write-marks Inv-loop μ-loop
 slice-write-marks c =
@@ -61,7 +61,7 @@ slice-write-marks c =
     let l = loop .before .loop .l in
     let below : l < records p = omega (arith, loop .loop-test .taken, loop .before .loop .inv .0) in
     let belt = names-record p (start .pre .0 .2) l (loop .before .loop .inv .1) below (sym (c .before .before .names-belt .ensures) ∙ c .before .if1 .taken) in
-    omega (arith, belt .0, few p (start .pre .0), c .index2 .ensures .0, loop .before .loop .inv .2)
+    omega (arith, belt .0, few p (start .pre .0 .0 .0 .0), c .index2 .ensures .0, loop .before .loop .inv .2)
 
 add-l-2 : tie.Need-add-l-2 Inv-loop μ-loop
 add-l-2 c =

@@ -1,36 +1,29 @@
+-- `plan::table::row_of` meets its contract: each arm is a row of the table. Assumes nothing.
 use borrow.Author.Tests.{ne-eqb}
 use Rattle.plan.specs.Records.{rowOf}
 use Rattle.plan.proofs.table.row_of.Statement.{statement}
 use Rattle.plan.proofs.table.row_of.Tie as tie
-use Rattle.plan.proofs.table.row_of.Reads as reads
-use Rattle.plan.proofs.table.row_of.Lts as lts
 
--- src/record.rt:54:1
 returns : tie.Need-returns
 unfolding rowOf
 returns c = rw (c .match .keys1)
 
--- src/record.rt:54:1
 returns-2 : tie.Need-returns-2
 unfolding rowOf
 returns-2 c = rw (c .match .keys2)
 
--- src/record.rt:54:1
 returns-3 : tie.Need-returns-3
 unfolding rowOf
 returns-3 c = rw (c .match .keys3)
 
--- src/record.rt:54:1
 returns-4 : tie.Need-returns-4
 unfolding rowOf
 returns-4 c = rw (c .match .keys4)
 
--- src/record.rt:54:1
 returns-5 : tie.Need-returns-5
 unfolding rowOf
 returns-5 c = rw (c .match .keys5)
 
--- src/record.rt:54:1
 returns-6 : tie.Need-returns-6
 unfolding rowOf
 returns-6 c =

@@ -1,3 +1,4 @@
+-- `plan::table::use_at` meets its contract: each arm is a field of the row. Assumes nothing.
 use mathlib.Core.Path.{_≡_, refl, sym}
 use Prim.Native.Nat.{ℕ, zero, suc}
 use Rattle.plan.specs.declared.table.Use.the-variants.{Any}
@@ -6,8 +7,6 @@ use Rattle.plan.specs.Records.{useAt}
 use borrow.Author.Needs.{needs}
 use Rattle.plan.proofs.table.use_at.Statement.{statement}
 use Rattle.plan.proofs.table.use_at.Tie as tie
-use Rattle.plan.proofs.table.use_at.Reads as reads
-use Rattle.plan.proofs.table.use_at.Lts as lts
 
 -- no row speaks of field 0 or of a field above 5
 other : (row : Row) (f : ℕ) → (f ≡ 1 → ⊥) → (f ≡ 2 → ⊥) → (f ≡ 3 → ⊥) → (f ≡ 4 → ⊥) → (f ≡ 5 → ⊥) → useAt row f ≡ Any
@@ -19,27 +18,21 @@ other row (suc (suc (suc (suc zero)))) h1 h2 h3 h4 h5 = absurd (h4 refl)
 other row (suc (suc (suc (suc (suc zero))))) h1 h2 h3 h4 h5 = absurd (h5 refl)
 other row (suc (suc (suc (suc (suc (suc f)))))) h1 h2 h3 h4 h5 = refl
 
--- src/record.rt:104:1
 returns : tie.Need-returns
 returns c = search needs
 
--- src/record.rt:104:1
 returns-2 : tie.Need-returns-2
 returns-2 c = search needs
 
--- src/record.rt:104:1
 returns-3 : tie.Need-returns-3
 returns-3 c = search needs
 
--- src/record.rt:104:1
 returns-4 : tie.Need-returns-4
 returns-4 c = search needs
 
--- src/record.rt:104:1
 returns-5 : tie.Need-returns-5
 returns-5 c = search needs
 
--- src/record.rt:104:1
 returns-6 : tie.Need-returns-6
 returns-6 c =
     let rest = c .match .rest in

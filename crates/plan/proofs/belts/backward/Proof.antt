@@ -1,41 +1,36 @@
--- `plan::belts::falls` meets its contract: the chain from the belt on decides as the whole chain does. Assumes nothing.
-use mathlib.Core.Path.{_≡_, refl, sym, ap, _∙_, subst}
-use mathlib.Core.Bool.{Bool, true, false, _||_}
-use Prim.Native.Nat.{ℕ, zero, suc, _≤_, _<_, _+_, _*_}
+-- `plan::belts::backward` meets its contract: the chain from the belt on decides as the whole chain does. Assumes nothing.
+use mathlib.Core.Path.{_≡_, sym, ap, _∙_, subst}
+use mathlib.Core.Bool.{Bool, _||_}
+use Prim.Native.Nat.{ℕ}
 use mathlib.Core.List.{List, _∷_}
-use borrow.Author.Needs.{needs}
 use borrow.Author.Tests.{le-leb, lt-leb}
 use native.Mathlib.Omega.{arith}
 use lib.ListN.{length}
 use lib.Dec.{leb}
 use Rattle.plan.specs.Lists.{any}
-use Rattle.plan.specs.Records.{field, junctions, records, IsKind, chain}
-use Rattle.plan.specs.Refusals.{falls, Passed4}
-use Rattle.plan.proofs.Forms.{sized, header}
+use Rattle.plan.specs.Records.{field, IsKind, chain}
+use Rattle.plan.specs.Refusals.{backward}
+use Rattle.plan.proofs.Forms.{there, header}
 use Rattle.plan.proofs.Passed.{linked}
 use Rattle.plan.proofs.Chains.{chain-end, belt-step, first-belt, next-belt}
-use Rattle.plan.proofs.belts.falls.Statement.{statement}
-use Rattle.plan.proofs.belts.falls.Tie as tie
+use Rattle.plan.proofs.belts.backward.Statement.{statement}
+use Rattle.plan.proofs.belts.backward.Tie as tie
 
 -- belt e does not lead above junction j
 abbrev low : List ℕ → ℕ → ℕ → Bool
 low p j e = leb (field p e 2) j
 
 abbrev Inv-loop : tie.InvT-loop
-Inv-loop p j belt₀ belt = ((belt ≡ 0 → ⊥) → IsKind p 2 belt) × (any (low p j) (chain p belt) ≡ falls p j)
+Inv-loop p j belt₀ belt = ((belt ≡ 0 → ⊥) → IsKind p 2 belt) × (any (low p j) (chain p belt) ≡ backward p j)
 
 abbrev μ-loop : tie.MeasureT-loop
 μ-loop p j belt₀ belt = length (chain p belt)
-
--- a record below N is there
-room : (p : List ℕ) → Passed4 p → (r : ℕ) → r < records p → 12 * r + 12 ≤ length p
-room p h r l = let s = sized p (h .0 .0) in omega arith
 
 index-requires : tie.Need-index-requires Inv-loop μ-loop
 index-requires c κs =
     let pre = c .before .pre in
     let h = header _ (pre .0 .0 .1) in
-    (omega arith, room _ (pre .0) _ (omega arith))
+    (omega arith, there _ (pre .0 .0 .0) _ (omega arith))
 
 loop-holds : tie.Need-loop-holds Inv-loop μ-loop
 loop-holds c =
@@ -47,7 +42,7 @@ loop-holds c =
     )
 
 index-requires-2 : tie.Need-index-requires-2 Inv-loop μ-loop
-index-requires-2 c κs = (omega arith, room _ (c .before .before .before .before .pre .0) _ (c .before .loop .inv .0 (c .loop-test .taken) .0))
+index-requires-2 c κs = (omega arith, there _ (c .before .before .before .before .pre .0 .0 .0) _ (c .before .loop .inv .0 (c .loop-test .taken) .0))
 
 -- the chain, one belt on
 step : (c : tie.In-loop Inv-loop μ-loop) → chain (c .before .before .before .before .args .p .now) (c .before .loop .belt)
@@ -65,7 +60,7 @@ returns c =
 index-requires-3 : tie.Need-index-requires-3 Inv-loop μ-loop
 index-requires-3 c κs =
     let loop = c .before .before in
-    (omega arith, room _ (loop .before .before .before .before .pre .0) _ (loop .before .loop .inv .0 (loop .loop-test .taken) .0))
+    (omega arith, there _ (loop .before .before .before .before .pre .0 .0 .0) _ (loop .before .loop .inv .0 (loop .loop-test .taken) .0))
 
 loop-less : tie.Need-loop-less Inv-loop μ-loop
 loop-less c =
@@ -92,8 +87,8 @@ returns-2 c =
     let a = c .before .before .before .before .args in
     sym (ap (λ i. any (low (a .p .now) (a .j)) (chain (a .p .now) i)) (c .loop-test .left) ∙ ap (any (low (a .p .now) (a .j))) (chain-end (a .p .now))) ∙ c .before .loop .inv .1
 
-pub falls-spec : {M : Type 1} → statement M
-falls-spec =
+pub backward-spec : {M : Type 1} → statement M
+backward-spec =
     tie.close
     (tie.spec
     Inv-loop

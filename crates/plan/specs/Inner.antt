@@ -1,13 +1,17 @@
--- What the check keeps in its own arrays: contracts of private functions cite it. Nobody has to believe it: the contracts of
--- the open functions speak of Refusals.antt and Plan.antt alone.
+-- Definitions that only the contracts of private functions cite. Nobody has to believe them: what the open functions answer is said
+-- by the other files.
 --
---   bump m                the mark of a record that is met once more: 0 not met, 1 once, 2 more than once
+--   Passed2, Passed4, Passed6 b
+--                         no line up to line 2, 4 or 6 is broken
+--   bump m                the mark of a record to which one more link leads: 0 none, 1 one, 2 more than one
+--   mark seen i           the marks with that of record i so raised
 --   marked seen ls        the marks `seen` after the links ls have been followed
 --   Followed b ls seen later t
---                         the links ls of the plan b have been followed: t says whether one leads astray, and where none does the
---                         marks `seen` have become `later`
---   markedOnce seen r     record r is marked as met once
+--                         the links ls of the plan b have been followed: t says whether one is wrong, and where none is the marks
+--                         `seen` have become `later`
+--   markedOnce seen r     record r is marked with 1
 --   namesBelt b l         record l is a literal of a belt
+--   note t marks e        the marks with belt e marked, where t says so
 --   noted b marks ls      the marks after the belts that the records ls name have been marked
 --   notes b               those of the whole plan, in an array of 2,048
 --
@@ -20,7 +24,17 @@ use lib.ListN.{getD, set, replicate}
 use lib.Dec.{eqb}
 use Rattle.plan.specs.Lists.{any, upto}
 use Rattle.plan.specs.Records.{field, kind, junctions, records, Link}
-use Rattle.plan.specs.Refusals.{astray}
+use Rattle.plan.specs.Refusals.{badLink, broken1, broken2, broken3, broken4, broken5, broken6}
+
+-- no line is broken up to line 2, 4 or 6
+abbrev pub Passed2 : List ℕ → Type 0
+Passed2 b = (broken1 b ≡ false) × (broken2 b ≡ false)
+
+abbrev pub Passed4 : List ℕ → Type 0
+Passed4 b = Passed2 b × (broken3 b ≡ false) × (broken4 b ≡ false)
+
+abbrev pub Passed6 : List ℕ → Type 0
+Passed6 b = Passed4 b × (broken5 b ≡ false) × (broken6 b ≡ false)
 
 abbrev pub bump : ℕ → ℕ
 bump zero = 1
@@ -34,7 +48,7 @@ marked seen [] = seen
 marked seen (l ∷ ls) = marked (mark seen (l .index)) ls
 
 abbrev pub Followed : List ℕ → List Link → List ℕ → List ℕ → Bool → Type 0
-Followed b ls seen later t = (t ≡ any (astray b) ls) × (t ≡ false → later ≡ marked seen ls)
+Followed b ls seen later t = (t ≡ any (badLink b) ls) × (t ≡ false → later ≡ marked seen ls)
 
 abbrev pub markedOnce : List ℕ → ℕ → Bool
 markedOnce seen r = eqb (getD seen r 0) 1
