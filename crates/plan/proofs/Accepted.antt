@@ -22,12 +22,12 @@ use borrow.Author.Tests.{leb-true}
 use lib.Dec.{leb}
 
 -- no line has the number 0
-numbered : (l : Line (List ℕ)) → List·Memᴰ l planLines → 1 ≤ l .number
-numbered l m = leb-true 1 (l .number) (all-in (λ (k : Line (List ℕ)). leb 1 (k .number)) planLines refl m)
+from-1 : (l : Line (List ℕ)) → List·Memᴰ l planLines → 1 ≤ l .number
+from-1 l m = leb-true 1 (l .number) (all-in (λ (k : Line (List ℕ)). leb 1 (k .number)) planLines refl m)
 
 pub unbroken : (b : List ℕ) → refusal b ≡ 0 → Unbroken planLines b
 unfolding refusal
-unbroken b e = passed planLines b numbered e
+unbroken b e = passed planLines b from-1 e
 
 pub accepted-passed : (b : List ℕ) → refusal b ≡ 0 → Passed6 b × (broken7 b ≡ false)
 accepted-passed b e =

@@ -170,9 +170,9 @@ chain-step {b} {k} w t i o =
 -- ---- two laws of lists
 
 -- the first that passes is the only one
-first-is : (f : ℕ → Bool) (xs : List ℕ) (j : ℕ) → List·Memᴰ j xs → f j ≡ true → ((i : ℕ) → List·Memᴰ i xs → f i ≡ true → i ≡ j) → firstIn f xs ≡ j
-first-is f [] j m t only = absurd (List·Memᴰ·not-nil m)
-first-is f (x ∷ xs) j m t only = go (f x) refl (List·Memᴰ·cases-cons m) (λ k. first-is f xs j k t (λ i n. only i (List·Memᴰ·tail n)))
+firstIn-is : (f : ℕ → Bool) (xs : List ℕ) (j : ℕ) → List·Memᴰ j xs → f j ≡ true → ((i : ℕ) → List·Memᴰ i xs → f i ≡ true → i ≡ j) → firstIn f xs ≡ j
+firstIn-is f [] j m t only = absurd (List·Memᴰ·not-nil m)
+firstIn-is f (x ∷ xs) j m t only = go (f x) refl (List·Memᴰ·cases-cons m) (λ k. firstIn-is f xs j k t (λ i n. only i (List·Memᴰ·tail n)))
   where
     go : (c : Bool) → f x ≡ c → (j ≡ x) ⊎ List·Memᴰ j xs → (List·Memᴰ j xs → firstIn f xs ≡ j) → elim c [ true ↦ x | false ↦ firstIn f xs ] ≡ j
     go true e k later = only x (List·Memᴰ·head refl) e
@@ -191,8 +191,8 @@ keep-map {A} f g (x ∷ xs) = go (f (g x)) (keep-map f g xs)
 -- ---- the laws, of belts, rules and literals
 
 -- e stands on a chain of records of kind k
-abbrev pub Reached : List ℕ → ℕ → ℕ → Type 0
-Reached b k e = (r f : ℕ) × Start b r f k × List·Memᴰ e (chain b (field b r f))
+abbrev pub OnChain : List ℕ → ℕ → ℕ → Type 0
+OnChain b k e = (r f : ℕ) × Start b r f k × List·Memᴰ e (chain b (field b r f))
 
 -- ---- the belt records
 
@@ -268,7 +268,7 @@ module _ {b : List ℕ} (w : Linked b) where
   -- ---- every item stands on a chain
 
   -- by recursion on a bound: the one index that leads to e is held by the start of a chain, or by an item that is reached
-  reached-below : {k : ℕ} → Item k → (B e : ℕ) → e < B → IsKind b k e → Reached b k e
+  reached-below : {k : ℕ} → Item k → (B e : ℕ) → e < B → IsKind b k e → OnChain b k e
   reached-below t zero e l o = absurd (omega arith)
   reached-below {k} t (suc B) e l o = go (count-some (λ (l : Link). eqb (l .index) e) (links b) (omega (arith, w .once e up (o .0)))) (reached-below t B)
     where
@@ -276,23 +276,23 @@ module _ {b : List ℕ} (w : Linked b) where
       up = above w t e o
 
       Below : Type 0
-      Below = (x : ℕ) → x < B → IsKind b k x → Reached b k x
+      Below = (x : ℕ) → x < B → IsKind b k x → OnChain b k x
 
-      by : {r f : ℕ} → Holds b r f k → field b r f ≡ e → Below → Reached b k e
+      by : {r f : ℕ} → Holds b r f k → field b r f ≡ e → Below → OnChain b k e
       by (starts {r} {f} s) q below = (r, f, s, Memᴰ·cast (sym q) (from-head (chained-at w s) (λ z. omega (arith, up))))
       by (goes-on {r} t o) q below =
           let d : field b r 1 ≡ 0 → ⊥ = λ z. omega (arith, up) in
           let x = below r (omega (arith, leads w (goes-on t o) d .0)) o in
           (x .0, x .1, x .2, Memᴰ·cast (sym q) (from-next (chained-at w (x .2)) (x .3) d))
 
-      go : (l : Link) × List·Memᴰ l (links b) × (eqb (l .index) e ≡ true) → Below → Reached b k e
+      go : (l : Link) × List·Memᴰ l (links b) × (eqb (l .index) e ≡ true) → Below → OnChain b k e
       go x below =
           let (r, f, k′, h, p) = holder w (x .0) (x .1) in
           let q : field b r f ≡ e = ap (λ (l : Link). l .index) (sym p) ∙ eqb-true (x .0 .index) e (x .2) in
           let same : k′ ≡ k = sym (leads w h (λ z. omega (arith, up)) .1 .1) ∙ ap (kind b) q ∙ o .1 in
           by (subst (Holds b r f) same h) q below
 
-  pub reached : {k : ℕ} → Item k → (e : ℕ) → IsKind b k e → Reached b k e
+  pub reached : {k : ℕ} → Item k → (e : ℕ) → IsKind b k e → OnChain b k e
   reached t e o = reached-below t (suc e) e (omega arith) o
 
   pub belt-reached : (e : ℕ) → IsKind b 2 e → (j : ℕ) × (1 ≤ j) × (j ≤ junctions b) × List·Memᴰ e (chain b (field b j 1))
@@ -350,7 +350,7 @@ module _ {b : List ℕ} (w : Linked b) where
   -- `leaves` finds the junction whose chain has e
   pub leaves-is : (e j : ℕ) → 1 ≤ j → j ≤ junctions b → List·Memᴰ e (chain b (field b j 1)) → leaves b e ≡ j
   leaves-is e j l h m =
-      first-is (λ (i : ℕ). mem e (chain b (field b i 1))) (upto 1 (suc (junctions b))) j (in-upto 1 (suc (junctions b)) j l (omega arith)) (in-mem (chain b (field b j 1)) m)
+      firstIn-is (λ (i : ℕ). mem e (chain b (field b i 1))) (upto 1 (suc (junctions b))) j (in-upto 1 (suc (junctions b)) j l (omega arith)) (in-mem (chain b (field b j 1)) m)
       (λ i k t. let u = upto-in 1 (suc (junctions b)) i k in
       one-junction e i j (u .0) (omega (arith, u .1)) l h (mem-in (chain b (field b i 1)) t) m)
 

@@ -199,8 +199,8 @@ met-all : List ℕ → List ℕ
 met-all b = joined (met b (records b)) (firsts b)
 
 -- a link of record i leads above i, above J and below N
-abbrev Rises : List ℕ → ℕ → Link → Type 0
-Rises b i l = (i < l .index) × (l .index < records b) × (junctions b < l .index)
+abbrev LeadsUp : List ℕ → ℕ → Link → Type 0
+LeadsUp b i l = (i < l .index) × (l .index < records b) × (junctions b < l .index)
 
 -- how many links of record x lead to record r
 abbrev linksTo : List ℕ → ℕ → ℕ → ℕ
@@ -228,7 +228,7 @@ reached-met b = joined-same (walk b (records b)) (met b (records b)) (walk-met b
 
 module _ (b : List ℕ) (room : junctions b < records b) (well : Upward b) where
   -- the links of one record, by its own index
-  well-at : (i : ℕ) → i < records b → (l : Link) → List·Memᴰ l (linksAt b i) → Rises b i l
+  well-at : (i : ℕ) → i < records b → (l : Link) → List·Memᴰ l (linksAt b i) → LeadsUp b i l
   well-at i h l m =
       let w = well l (in-links b i l h m) in
       let lower : l .holder < l .index = w .0 in
@@ -252,7 +252,7 @@ module _ (b : List ℕ) (room : junctions b < records b) (well : Upward b) where
       let s = joined-in (λ (l : Link). l .index ∷ met b n (l .index)) (linksAt b i) m in
       go (s .0) (well-at i h (s .0) (s .1)) (List·Memᴰ·cases-cons (s .2)) (met-within n (s .0 .index) r)
     where
-      go : (l : Link) → Rises b i l → (r ≡ l .index) ⊎ List·Memᴰ r (met b n (l .index))
+      go : (l : Link) → LeadsUp b i l → (r ≡ l .index) ⊎ List·Memᴰ r (met b n (l .index))
           → (l .index < records b → List·Memᴰ r (met b n (l .index)) → Other b r) → Other b r
       go l w (inl e) below = (omega (arith, w .2), omega (arith, w .1))
       go l w (inr k) below = below (w .1) k
