@@ -13,7 +13,7 @@ ghost use Rattle.plan.specs.Refusals.{broken4};
 ghost use Rattle.plan.specs.Inner.{Passed2};
 ghost use Rattle.plan.specs.Inner.{bump, markedOnce, Followed};
 
-// The mark of a record that is met once more: 0 not met, 1 met once, 2 met more than once.
+// The mark of a record to which one more link leads: 0 none, 1 one, 2 more than one.
 fn bump(mark: u8) -> u8
     ensures { λ v. ⌜ v ≡ bump mark ⌝ }
 {
@@ -85,7 +85,7 @@ fn follow_all(p: &[u8], seen: &mut [u8], n: usize) -> bool
     false
 }
 
-// Whether a record from lo on is not marked as met once.
+// Whether a record from lo on is reached twice or never, by its mark.
 fn unmet(seen: &[u8], lo: usize, n: usize) -> bool
     requires { ⌜ n ≤ length (now seen) ⌝ }
     ensures { λ v. ⌜ v ≡ any (λ r. not (markedOnce (now (seen .entry)) r)) (upto lo n) ⌝ }
