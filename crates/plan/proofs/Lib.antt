@@ -1,3 +1,4 @@
+-- Laws, each file after those that it rests on. The layers above go by Reading, Naming and Places; the claims are proved in Claims.
 pub mod Lists
 pub mod Counts
 pub mod Rising

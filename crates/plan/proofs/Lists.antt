@@ -206,7 +206,7 @@ module _ {A : Type 0} (f : A → Bool) where
       go true e = omega arith
       go false e = e
 
-  pub count-pos : {a : A} (xs : List A) → List·Memᴰ a xs → f a ≡ true → 1 ≤ count f xs
+  count-pos : {a : A} (xs : List A) → List·Memᴰ a xs → f a ≡ true → 1 ≤ count f xs
   count-pos [] m h = absurd (List·Memᴰ·not-nil m)
   count-pos {a} (x ∷ xs) m h = go (f x) refl (List·Memᴰ·cases-cons m) (λ k. count-pos xs k h)
     where

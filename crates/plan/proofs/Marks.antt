@@ -114,7 +114,7 @@ marks-count (l ∷ ls) seen r h =
     later true n m = refl
     later false n m = refl
 
-pub once-marked : (ls : List Link) (n r : ℕ) → r < n → markedOnce (marked (replicate n 0) ls) r ≡ eqb (pointers ls r) 1
+once-marked : (ls : List Link) (n r : ℕ) → r < n → markedOnce (marked (replicate n 0) ls) r ≡ eqb (pointers ls r) 1
 once-marked ls n r h =
     ap (λ (m : ℕ). eqb m 1)
     (marks-count ls (replicate n 0) r (rw length-replicate h) ∙ ap (bumps (pointers ls r)) (getD-replicate n r 0 0 h))

@@ -58,7 +58,7 @@ pub length-note : (t : Bool) (marks : List ℕ) (e : ℕ) → length (note t mar
 length-note true marks e = length-set marks e 1
 length-note false marks e = refl
 
-pub length-noted : (b marks ls : List ℕ) → length (noted b marks ls) ≡ length marks
+length-noted : (b marks ls : List ℕ) → length (noted b marks ls) ≡ length marks
 length-noted b marks [] = refl
 length-noted b marks (l ∷ ls) = length-noted b (note (namesBelt b l) marks (field b l 4)) ls ∙ length-note (namesBelt b l) marks (field b l 4)
 
@@ -101,7 +101,7 @@ marks-at b marks e (l ∷ ls) h =
 abbrev pub someNames : List ℕ → ℕ → Bool
 someNames b e = any (namesAt b e) (upto (suc (junctions b)) (records b))
 
-pub noted-at : (b : List ℕ) (e : ℕ) → e < 2048 → getD (notes b) e 0 ≡ counted (someNames b e) 0
+noted-at : (b : List ℕ) (e : ℕ) → e < 2048 → getD (notes b) e 0 ≡ counted (someNames b e) 0
 unfolding notes
 noted-at b e h =
     marks-at b (replicate 2048 0) e (upto (suc (junctions b)) (records b)) (omega (arith, length-replicate {A = ℕ} 2048 0))

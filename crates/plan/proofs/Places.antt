@@ -1,5 +1,7 @@
 -- The list and the places of the named belts: the arrays that the code makes, and what they say.
 --
+--   length-listed, listed-at
+--                     the array has 48 places, and the first of them hold the named belts
 --   listed-sets       belts stored from the front of an array of 48 are `listed`
 --   numbered          the elements of a list numbered in an array
 --   numbered-places   numbered in an array of 2,048 they are `placesOf`
@@ -14,7 +16,7 @@ use mathlib.Core.Bool.{Bool, true, false, _||_}
 use Prim.Native.Nat.{ℕ, zero, suc, _+_, _-_, _≤_, _<_}
 use mathlib.Core.List.{List, [], _∷_, _++_, map, List·Memᴰ, List·Memᴰ·head, List·Memᴰ·tail}
 use native.Mathlib.Omega.{arith}
-use lib.ListN.{length, getD, drop, set, replicate, length-set, length-map, length-replicate, getD-replicate}
+use lib.ListN.{length, getD, drop, set, replicate, length-set, length-map, length-replicate, getD-replicate, length-append, List·getD-append, List·getD-map}
 use lib.Seq.{getD-set-same, getD-set-other, sets, sets-eq, ext-getD}
 use lib.Dec.{eqb, ltb}
 use borrow.Author.Tests.{eqb-true, eqb-false, ne-eqb, lt-ltb, le-ltb}
@@ -40,6 +42,15 @@ stored n a vs h =
     let size = length-replicate n a in
     let e : n - (0 + length vs) ≡ n - length vs = omega arith in
     sets-eq vs (replicate n a) 0 (omega arith) ∙ ap (λ (l : List _). vs ++ l) (drop-replicate (0 + length vs) n a ∙ ap (λ (m : ℕ). replicate m a) e)
+
+-- the array has 48 places, and the first of them hold the named belts
+pub length-listed : (ns : List ℕ) → length ns ≤ 48 → length (listed ns) ≡ 48
+length-listed ns h =
+    omega (arith, length-append (map beltId ns) (replicate (48 - length ns) (beltId 0)), length-map ns beltId, length-replicate (48 - length ns) (beltId 0))
+
+pub listed-at : (ns : List ℕ) (k : ℕ) → k < length ns → getD (listed ns) k (beltId 0) ≡ beltId (getD ns k 0)
+listed-at ns k h =
+    List·getD-append (map beltId ns) (replicate (48 - length ns) (beltId 0)) (beltId 0) k (omega (arith, length-map ns beltId)) ∙ List·getD-map beltId ns k 0
 
 pub listed-sets : (ns : List ℕ) → length ns ≤ 48 → sets (replicate 48 (beltId 0)) 0 (map beltId ns) ≡ listed ns
 listed-sets ns h =

@@ -152,7 +152,7 @@ linkBy-holder (Between a z) r v l m = absurd (List·Memᴰ·not-nil m)
 linkBy-holder (Chain k) r v l m = ap (λ (x : Link). x .holder) (linkTo-in r v k l m .0)
 
 -- and of all fields: the links of record r are held by r
-pub linksAt-holder : (b : List ℕ) (r : ℕ) (l : Link) → List·Memᴰ l (linksAt b r) → l .holder ≡ r
+linksAt-holder : (b : List ℕ) (r : ℕ) (l : Link) → List·Memᴰ l (linksAt b r) → l .holder ≡ r
 unfolding linksAt
 linksAt-holder b r l m =
     let x = joined-in (λ (f : ℕ). linkBy (useAt (rowAt b r) f) r (field b r f)) fields m in

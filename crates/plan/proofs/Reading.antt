@@ -4,6 +4,8 @@
 --   leaving-from, belts-end, belts-next, first-belt-is, next-belt-is             the belts leaving a junction
 --   rules-from, rules-end, rules-next, first-rule-is, next-rule-is               the rules
 --   literals-end, literals-next, first-literal-is, next-literal-is               the literals of a rule
+-- Counts:
+--   plan-sizes              1 to 256 junctions, at most 10 modes
 -- Belts of the plan:
 --   belt-in, belt-of        the belts of the plan are the belt records
 --   belts-rise              their names rise
@@ -62,9 +64,14 @@ module _ {b : List ℕ} (ok : Accepted b) where
   limits : Limits b
   limits = accepted-limits b (ok .unrefused)
 
+  pub plan-sizes : (1 ≤ planOf b .junctions) × (planOf b .junctions ≤ 256) × (planOf b .modes ≤ 10)
+  unfolding planOf
+  plan-sizes = let top = limits .header in (top .some-junctions, top .few-junctions, top .few-modes)
+
   -- ---- chains
 
-  pub leaving-from : (j : ℕ) → 1 ≤ j → j ≤ junctions b → leaving (planOf b) j ≡ beltsFrom b (firstBelt b j)
+  pub leaving-from : (j : ℕ) → 1 ≤ j → j ≤ planOf b .junctions → leaving (planOf b) j ≡ beltsFrom b (firstBelt b j)
+  unfolding planOf
   leaving-from = leaving-chain links
 
   pub belts-end : beltsFrom b 0 ≡ []
@@ -73,7 +80,8 @@ module _ {b : List ℕ} (ok : Accepted b) where
   pub belts-next : (e : ℕ) → IsBelt b e → beltsFrom b e ≡ beltAt b e ∷ beltsFrom b (nextBelt b e)
   belts-next e o = ap (map (beltAt b)) (belt-step links e o)
 
-  pub first-belt-is : (j : ℕ) → 1 ≤ j → j ≤ junctions b → (firstBelt b j ≡ 0 → ⊥) → IsBelt b (firstBelt b j)
+  pub first-belt-is : (j : ℕ) → 1 ≤ j → j ≤ planOf b .junctions → (firstBelt b j ≡ 0 → ⊥) → IsBelt b (firstBelt b j)
+  unfolding planOf
   first-belt-is = first-belt links
 
   pub next-belt-is : (e : ℕ) → IsBelt b e → (nextBelt b e ≡ 0 → ⊥) → (e < nextBelt b e) × IsBelt b (nextBelt b e)
@@ -125,13 +133,15 @@ module _ {b : List ℕ} (ok : Accepted b) where
   unfolding planOf
   belts-rise = subst Rises (sym (names-back b (beltRecords b))) (records-rise b)
 
-  pub on-chain : (e : ℕ) → IsBelt b e → (1 ≤ leaves b e) × (leaves b e ≤ junctions b) × List·Memᴰ e (chain b (firstBelt b (leaves b e)))
+  pub on-chain : (e : ℕ) → IsBelt b e → (1 ≤ leaves b e) × (leaves b e ≤ planOf b .junctions) × List·Memᴰ e (chain b (firstBelt b (leaves b e)))
+  unfolding planOf
   on-chain e o =
       let (j, l, u, m) = belt-reached links e o in
       let q = sym (leaves-is links e j l u m) in
       (subst (λ (i : ℕ). 1 ≤ i) q l, subst (λ (i : ℕ). i ≤ junctions b) q u, subst (λ (i : ℕ). List·Memᴰ e (chain b (firstBelt b i))) q m)
 
-  pub one-chain : (e j : ℕ) → 1 ≤ j → j ≤ junctions b → List·Memᴰ e (chain b (firstBelt b j)) → j ≡ leaves b e
+  pub one-chain : (e j : ℕ) → 1 ≤ j → j ≤ planOf b .junctions → List·Memᴰ e (chain b (firstBelt b j)) → j ≡ leaves b e
+  unfolding planOf
   one-chain e j l u m = sym (leaves-is links e j l u m)
 
   pub belt-ends : (x : Belt) → List·Memᴰ x (planOf b .belts) → (1 ≤ x .leaves) × (x .leaves < x .leads) × (x .leads ≤ planOf b .junctions)
@@ -151,7 +161,8 @@ module _ {b : List ℕ} (ok : Accepted b) where
   pub belt-leaving : (x : Belt) → List·Memᴰ x (planOf b .belts) → List·Memᴰ x (leaving (planOf b) (x .leaves))
   belt-leaving x m = in-keep (λ (y : Belt). eqb (y .leaves) (x .leaves)) (planOf b .belts) m (eq-eqb (x .leaves) (x .leaves) refl)
 
-  pub belt-low : (e : ℕ) → IsBelt b e → (junctions b < e) × (e < records b) × (e < 2048)
+  pub belt-low : (e : ℕ) → IsBelt b e → (planOf b .junctions < e) × (e < records b) × (e < 2048)
+  unfolding planOf
   belt-low e o = (above links belts e o, o .0, omega (arith, o .0, limits .sizes .few))
 
   pub belt-cost : Bytes b → (e : ℕ) → beltAt b e .cost < 65536

@@ -1,3 +1,4 @@
+-- In the order in which to read them. `Inner` is for the contracts of private functions alone.
 pub mod Lists
 pub mod Records
 pub mod Plan

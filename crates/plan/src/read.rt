@@ -2,7 +2,7 @@
 use crate::record;
 ghost use mathlib.Core.Path.{_≡_};
 ghost use Prim.Native.Nat.{_<_, _≤_};
-ghost use Rattle.plan.specs.Records.{field, records, junctions};
+ghost use Rattle.plan.specs.Records.{field, records};
 ghost use Rattle.plan.specs.Plan.{planOf, beltAt, literalAt};
 ghost use Rattle.plan.specs.Reading.{Accepted, IsBelt, IsRule, IsLiteral, firstBelt, nextBelt, firstRule, nextRule, firstLiteral, nextLiteral};
 
@@ -50,7 +50,7 @@ pub fn modes(p: &[u8]) -> usize
 
 // The first belt leaving junction j, or BeltId(0).
 pub fn first_belt(p: &[u8], j: usize) -> BeltId
-    requires { ⌜ Accepted (now p) × (1 ≤ j) × (j ≤ junctions (now p)) ⌝ }
+    requires { ⌜ Accepted (now p) × (1 ≤ j) × (j ≤ planOf (now p) .junctions) ⌝ }
     ensures { λ v. ⌜ v .0 ≡ firstBelt (now (p .entry)) j ⌝ }
 {
     BeltId(at(p, j, 1))

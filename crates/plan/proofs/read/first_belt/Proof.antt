@@ -1,11 +1,13 @@
 -- `plan::read::first_belt` meets its contract. Assumes nothing.
 use borrow.Author.Needs.{needs}
 use native.Mathlib.Omega.{arith}
+use Rattle.plan.specs.Plan.{planOf}
 use Rattle.plan.proofs.Accepted.{accepted-room}
 use Rattle.plan.proofs.read.first_belt.Statement.{statement}
 use Rattle.plan.proofs.read.first_belt.Tie as tie
 
 at-requires : tie.Need-at-requires
+unfolding planOf
 at-requires c κs = let room = accepted-room (c .before .pre .0) in (c .before .pre .0, omega arith, omega arith)
 
 returns : tie.Need-returns
