@@ -1,5 +1,7 @@
 -- The first broken line of a list of lines, about things of any type.
 --
+--   on-broken, on-unbroken
+--                 one more line in front, broken or not
 --   first-is      what firstBroken answers: 0 and no line is broken, or the number of the first broken one
 --   is-first      and it answers that number only
 --   none-broken   it answers 0 where no line is broken
@@ -17,10 +19,10 @@ use Rattle.plan.specs.Claims.{Unbroken, FirstIn}
 
 module _ {A : Type 0} where
   -- one more line in front, broken or not
-  on-broken : (l : Line A) (ls : List (Line A)) (b : A) → l .broken b ≡ true → firstBroken (l ∷ ls) b ≡ l .number
+  pub on-broken : (l : Line A) (ls : List (Line A)) (b : A) → l .broken b ≡ true → firstBroken (l ∷ ls) b ≡ l .number
   on-broken l ls b e = ap (λ (t : Bool). elim t [ true ↦ l .number | false ↦ firstBroken ls b ]) e
 
-  on-unbroken : (l : Line A) (ls : List (Line A)) (b : A) → l .broken b ≡ false → firstBroken (l ∷ ls) b ≡ firstBroken ls b
+  pub on-unbroken : (l : Line A) (ls : List (Line A)) (b : A) → l .broken b ≡ false → firstBroken (l ∷ ls) b ≡ firstBroken ls b
   on-unbroken l ls b e = ap (λ (t : Bool). elim t [ true ↦ l .number | false ↦ firstBroken ls b ]) e
 
   more : (l : Line A) (ls : List (Line A)) (b : A) → l .broken b ≡ false → Unbroken ls b → Unbroken (l ∷ ls) b

@@ -58,6 +58,10 @@ module _ {A : Type 0} (f : A → Bool) where
       go (inl e) below = ap f e ∙ both (f x) (all f xs) h .0
       go (inr k) below = below k
 
+  pub all-is : (xs : List A) → ((a : A) → List·Memᴰ a xs → f a ≡ true) → all f xs ≡ true
+  all-is [] h = refl
+  all-is (x ∷ xs) h = and-is (f x) (all f xs) (h x (List·Memᴰ·head refl)) (all-is xs (λ a m. h a (List·Memᴰ·tail m)))
+
   pub any-none : {a : A} (xs : List A) → any f xs ≡ false → List·Memᴰ a xs → f a ≡ false
   any-none [] h m = absurd (List·Memᴰ·not-nil m)
   any-none {a} (x ∷ xs) h m = go (List·Memᴰ·cases-cons m) (any-none xs (neither (f x) (any f xs) h .1))

@@ -10,9 +10,11 @@
 --   belt-in, belt-of        the belts of the plan are the belt records
 --   belts-rise              their names rise
 --   belt-name               two belts of one name are equal
+--   named-is, not-named     a number is a belt's name exactly when it is the index of a belt record
 --   belt-ends               a belt leaves a junction and leads to a higher one
 --   belt-leaving            a belt is among those leaving one junction, and that is where it leaves
 --   on-chain, one-chain     its record stands on the chain of that junction and of no other
+--   leaves-on               a belt leaves a junction exactly when it stands on its chain; chain-next, chain-none: along the chain
 --   belt-low                its name is above J, below N and below 2,048
 --   belt-cost, belts-cost   THE BOUND of a belt's cost, at a record and in the plan
 -- Rules and named belts:
@@ -34,11 +36,12 @@ use Rattle.plan.specs.declared.read.BeltId.{BeltId}
 use Rattle.plan.specs.declared.read.ModeId.{ModeId}
 use Rattle.plan.specs.declared.read.Literal.{Literal}
 use Rattle.plan.specs.declared.read.Literal.the-variants.{OfBelt, OfMode}
+use Rattle.plan.specs.Lists.{mem}
 use Rattle.plan.specs.Records.{field, kind, junctions, modes, records, chain}
-use Rattle.plan.specs.Plan.{Belt, planOf, leaves, beltAt, beltRecords, literalBy, literalAt, ruleAt, leaving, named}
+use Rattle.plan.specs.Plan.{Belt, planOf, leaves, beltAt, beltRecords, literalBy, literalAt, ruleAt, namesOf, leaving, named}
 use Rattle.plan.specs.Limits.{Limits, LiteralForm, BeltForm, RuleForm}
 use Rattle.plan.specs.Reading.{Accepted, Bytes, IsBelt, IsRule, IsLiteral, firstBelt, nextBelt, firstRule, nextRule, firstLiteral, nextLiteral, beltsFrom, rulesFrom, literalsFrom}
-use Rattle.plan.proofs.Lists.{in-keep, map-in}
+use Rattle.plan.proofs.Lists.{test, never, in-keep, in-map, map-in, in-mem, mem-in}
 use Rattle.plan.proofs.Links.{Linked}
 use Rattle.plan.proofs.Rising.{Rises}
 use Rattle.plan.proofs.Passed.{linked}
@@ -129,6 +132,28 @@ module _ {b : List ℕ} (ok : Accepted b) where
   pub belt-name : (x y : Belt) → List·Memᴰ x (planOf b .belts) → List·Memᴰ y (planOf b .belts) → x .name ≡ y .name → x ≡ y
   belt-name x y m n e = belt-of x m .1 ∙ ap (beltAt b) e ∙ sym (belt-of y n .1)
 
+  pub belt-named : (e : ℕ) → IsBelt b e → mem e (namesOf (planOf b .belts)) ≡ true
+  belt-named e o = in-mem (namesOf (planOf b .belts)) (in-map (λ (x : Belt). x .name) (belt-in e o))
+
+  pub name-belt : (e : ℕ) → mem e (namesOf (planOf b .belts)) ≡ true → IsBelt b e
+  name-belt e h =
+      let k = map-in (λ (x : Belt). x .name) (planOf b .belts) (mem-in (namesOf (planOf b .belts)) h) in
+      subst (IsBelt b) (sym (k .2)) (belt-of (k .0) (k .1) .0)
+
+  pub not-named : (e : ℕ) → (IsBelt b e → ⊥) → mem e (namesOf (planOf b .belts)) ≡ false
+  not-named e none = go (test (mem e (namesOf (planOf b .belts))))
+    where
+      go : (mem e (namesOf (planOf b .belts)) ≡ true) ⊎ (mem e (namesOf (planOf b .belts)) ≡ false) → mem e (namesOf (planOf b .belts)) ≡ false
+      go (inl t) = absurd (none (name-belt e t))
+      go (inr t) = t
+
+  pub named-is : (e : ℕ) → e < records b → mem e (namesOf (planOf b .belts)) ≡ eqb (kind b e) 2
+  named-is e h = go (test (eqb (kind b e) 2))
+    where
+      go : (eqb (kind b e) 2 ≡ true) ⊎ (eqb (kind b e) 2 ≡ false) → mem e (namesOf (planOf b .belts)) ≡ eqb (kind b e) 2
+      go (inl t) = belt-named e (h, eqb-true (kind b e) 2 t) ∙ sym t
+      go (inr t) = not-named e (λ o. eqb-false (kind b e) 2 t (o .1)) ∙ sym t
+
   pub belts-rise : Rises (map (λ (x : Belt). x .name) (planOf b .belts))
   unfolding planOf
   belts-rise = subst Rises (sym (names-back b (beltRecords b))) (records-rise b)
@@ -143,6 +168,25 @@ module _ {b : List ℕ} (ok : Accepted b) where
   pub one-chain : (e j : ℕ) → 1 ≤ j → j ≤ planOf b .junctions → List·Memᴰ e (chain b (firstBelt b j)) → j ≡ leaves b e
   unfolding planOf
   one-chain e j l u m = sym (leaves-is links e j l u m)
+
+  pub chain-next : (e : ℕ) → IsBelt b e → chain b e ≡ e ∷ chain b (nextBelt b e)
+  chain-next = belt-step links
+
+  pub chain-none : chain b 0 ≡ []
+  chain-none = chain-end b
+
+  pub leaves-on : (e j : ℕ) → IsBelt b e → 1 ≤ j → j ≤ planOf b .junctions → mem e (chain b (firstBelt b j)) ≡ eqb (leaves b e) j
+  leaves-on e j o l u = go (test (mem e (chain b (firstBelt b j)))) (test (eqb (leaves b e) j))
+    where
+      Out : Type 0
+      Out = mem e (chain b (firstBelt b j)) ≡ eqb (leaves b e) j
+
+      go : (mem e (chain b (firstBelt b j)) ≡ true) ⊎ (mem e (chain b (firstBelt b j)) ≡ false) → (eqb (leaves b e) j ≡ true) ⊎ (eqb (leaves b e) j ≡ false) → Out
+      go (inl m) q = m ∙ sym (eq-eqb (leaves b e) j (sym (one-chain e j l u (mem-in (chain b (firstBelt b j)) m))))
+      go (inr m) (inr q) = m ∙ sym q
+      go (inr m) (inl q) =
+          let on = subst (λ (i : ℕ). List·Memᴰ e (chain b (firstBelt b i))) (eqb-true (leaves b e) j q) (on-chain e o .2) in
+          absurd (never (in-mem (chain b (firstBelt b j)) on) m)
 
   pub belt-ends : (x : Belt) → List·Memᴰ x (planOf b .belts) → (1 ≤ x .leaves) × (x .leaves < x .leads) × (x .leads ≤ planOf b .junctions)
   unfolding planOf

@@ -1,22 +1,17 @@
 -- Plan P of the paper, worked out by computation: it is accepted, and this is what it means. Assumes nothing.
 --
---   recordOf    the twelve bytes of a record, out of its six fields
 --   planP       the bytes of plan P
 use mathlib.Core.Path.{_≡_, refl}
 use mathlib.Core.Bool.{false}
-use Prim.Native.Nat.{ℕ, _/_, _%_}
+use Prim.Native.Nat.{ℕ}
 use mathlib.Core.List.{List, [], _∷_, _++_}
 use Rattle.plan.specs.declared.read.Literal.the-variants.{OfBelt}
-use Rattle.plan.specs.Lists.{joined}
-use Rattle.plan.specs.Records.{rowOf, fits, linksAt, links}
+use Rattle.plan.specs.Records.{recordOf, rowOf, fits, linksAt, links}
 use Rattle.plan.specs.Plan.{Belt, planOf, named}
 use Rattle.plan.specs.Refusals.{broken1, broken2, broken3, broken4, broken5, broken6, broken7, refusal}
 use Rattle.plan.specs.Limits.{reached}
 
-abbrev pub recordOf : ℕ → ℕ → ℕ → ℕ → ℕ → ℕ → List ℕ
-recordOf a b c d e f = joined (λ (n : ℕ). n / 256 ∷ n % 256 ∷ []) (a ∷ b ∷ c ∷ d ∷ e ∷ f ∷ [])
-
-pub planP : List ℕ
+unfoldable pub planP : List ℕ
 planP =
     recordOf 7 3 1 7 10 0
     ++ recordOf 1 4 0 0 0 0

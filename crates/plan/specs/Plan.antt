@@ -7,6 +7,7 @@
 --     leaves b e    the junction whose chain has belt e
 --     beltAt b e, literalAt b l, ruleAt b r
 --                   the belt, the literal and the rule of a record; beltRecords b: the records that are belts
+--   namesOf es      the names of the belts es
 --   leaving p j     the belts of p that leave junction j, in rising index
 --   names e l       literal l is about belt e; inRule e rule: some literal of the rule is
 --   named p         the belts in some rule (paper 01's "named belts"), in rising index, each once
@@ -79,6 +80,9 @@ planOf b = record {
 
 -- ---- parts of a plan
 
+abbrev pub namesOf : List Belt → List ℕ
+namesOf es = map (λ (e : Belt). e .name) es
+
 abbrev pub leaving : Plan → ℕ → List Belt
 leaving p j = keep (λ (e : Belt). eqb (e .leaves) j) (p .belts)
 
@@ -90,7 +94,7 @@ abbrev pub inRule : ℕ → List Literal → Bool
 inRule e rule = any (names e) rule
 
 unfoldable pub named : Plan → List ℕ
-named p = keep (λ (e : ℕ). any (inRule e) (p .rules)) (map (λ (e : Belt). e .name) (p .belts))
+named p = keep (λ (e : ℕ). any (inRule e) (p .rules)) (namesOf (p .belts))
 
 abbrev pub beltId : ℕ → BeltId
 beltId e = record { 0 = e }

@@ -2,6 +2,7 @@
 --
 --   field b r f     field f of record r of the bytes b: 16 bits, high byte first
 --   kind b r        field 0
+--   recordOf f0 ..  the twelve bytes of a record, out of its six fields; fieldBytes: the two of a field
 --   junctions b, modes b, records b
 --                   J, M and N of record 0
 --   IsKind b k i    i is the index of a record of kind k
@@ -19,7 +20,7 @@
 -- `Use` and `Row` are declared by the code (src/table.rt). Not here: what a broken plan is refused with (Refusals.antt).
 -- Assumes nothing.
 use mathlib.Core.Path.{_≡_}
-use Prim.Native.Nat.{ℕ, zero, suc, _+_, _*_, _<_}
+use Prim.Native.Nat.{ℕ, zero, suc, _+_, _*_, _/_, _%_, _<_}
 use mathlib.Core.Bool.{Bool, true, false}
 use mathlib.Core.List.{List, [], _∷_}
 use lib.ListN.{getD}
@@ -34,6 +35,12 @@ field b r f = getD b (12 * r + 2 * f) 0 * 256 + getD b (12 * r + 2 * f + 1) 0
 
 abbrev pub kind : List ℕ → ℕ → ℕ
 kind b r = field b r 0
+
+abbrev pub fieldBytes : ℕ → List ℕ
+fieldBytes n = n / 256 ∷ n % 256 ∷ []
+
+abbrev pub recordOf : ℕ → ℕ → ℕ → ℕ → ℕ → ℕ → List ℕ
+recordOf f0 f1 f2 f3 f4 f5 = joined fieldBytes (f0 ∷ f1 ∷ f2 ∷ f3 ∷ f4 ∷ f5 ∷ [])
 
 abbrev pub junctions : List ℕ → ℕ
 junctions b = field b 0 1

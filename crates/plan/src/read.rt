@@ -1,9 +1,12 @@
 // Readers of an accepted plan. A chain is read by its first record and the next one after a record; the number 0 ends it.
 use crate::record;
+use crate::record::BELT;
 ghost use mathlib.Core.Path.{_≡_};
 ghost use Prim.Native.Nat.{_<_, _≤_};
 ghost use Rattle.plan.specs.Records.{field, records};
-ghost use Rattle.plan.specs.Plan.{planOf, beltAt, literalAt};
+ghost use lib.Dec.{eqb};
+ghost use Rattle.plan.specs.Lists.{mem};
+ghost use Rattle.plan.specs.Plan.{planOf, beltAt, literalAt, namesOf};
 ghost use Rattle.plan.specs.Reading.{Accepted, IsBelt, IsRule, IsLiteral, firstBelt, nextBelt, firstRule, nextRule, firstLiteral, nextLiteral};
 
 // A belt's name: the index of its record.
@@ -64,6 +67,33 @@ pub fn next_belt(p: &[u8], belt: BeltId) -> BeltId
     BeltId(at(p, belt.0 as usize, 1))
 }
 
+// Whether this is the number of a belt.
+pub fn is_belt(p: &[u8], belt: BeltId) -> bool
+    requires { ⌜ Accepted (now p) ⌝ }
+    ensures { λ v. ⌜ v ≡ mem (belt .0) (namesOf (planOf (now (p .entry)) .belts)) ⌝ }
+{
+    let e = belt.0 as usize;
+    if record::records(p) <= e {
+        return false;
+    }
+    at(p, e, 0) == BELT
+}
+
+// Whether a belt leaves junction j: it stands on the junction's chain.
+pub fn leaves(p: &[u8], belt: BeltId, j: usize) -> bool
+    requires { ⌜ Accepted (now p) × IsBelt (now p) (belt .0) × (1 ≤ j) × (j ≤ planOf (now p) .junctions) ⌝ }
+    ensures { λ v. ⌜ v ≡ eqb (beltAt (now (p .entry)) (belt .0) .leaves) j ⌝ }
+{
+    let mut other = first_belt(p, j);
+    while other.0 != 0 {
+        if belt.0 == other.0 {
+            return true;
+        }
+        other = next_belt(p, other);
+    }
+    false
+}
+
 // The junction that a belt leads to.
 pub fn leads_to(p: &[u8], belt: BeltId) -> usize
     requires { ⌜ Accepted (now p) × IsBelt (now p) (belt .0) ⌝ }
@@ -75,7 +105,7 @@ pub fn leads_to(p: &[u8], belt: BeltId) -> usize
 // The cost of a belt.
 pub fn cost(p: &[u8], belt: BeltId) -> u64
     requires { ⌜ Accepted (now p) × IsBelt (now p) (belt .0) ⌝ }
-    ensures { λ v. ⌜ v ≡ beltAt (now (p .entry)) (belt .0) .cost ⌝ }
+    ensures { λ v. ⌜ (v ≡ beltAt (now (p .entry)) (belt .0) .cost) × (v < 65536) ⌝ }
 {
     at(p, belt.0 as usize, 3) as u64
 }
