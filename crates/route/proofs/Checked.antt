@@ -1,0 +1,237 @@
+-- The first broken line of the sheet check: lines of plans first, then those of cases.
+--
+--   refused-plan       a refused plan gives its own number
+--   refused-8, refused-11 .. refused-14, none-refused
+--                      with an accepted plan: the number, where a line is the first to be broken, and 0 where none is
+--   no-form, said-refused
+--                      where the sheet is not in the form, and where it is and what it says decides
+--   Unrefused          no line is broken; zero-unrefused, unrefused-zero: exactly where the answer is 0
+--   query-accepted, query-ends, ends-query
+--                      lines 1 to 8 are unbroken exactly where the plan is accepted and line 8 unbroken
+--   outside-s, outside-t, not-outside, inside, ends-inside
+--                      line 8 is unbroken exactly where s and t are junctions
+--   finding-claim      FirstFindingClaim
+--
+-- Assumes nothing.
+use mathlib.Core.Path.{_≡_, refl, sym, _∙_, ap, subst}
+use mathlib.Core.Logic.{_⊎_, inl, inr}
+use mathlib.Core.Bool.{Bool, true, false, not, _&&_, true≢false}
+use Prim.Native.Nat.{ℕ, _^_, _≤_, _<_}
+use mathlib.Core.List.{List, [], _∷_, _++_, map, List·Memᴰ, List·Memᴰ·head, List·Memᴰ·tail, List·Memᴰ·eq-of-singleton, List·Memᴰ·append-cases, Memᴰ·append-left, Memᴰ·append-right}
+use lib.Dec.{eqb, leb, ltb}
+use borrow.Author.Tests.{leb-true, le-leb, not-false}
+use Rattle.plan.specs.Lists.{all, mem, within}
+use Rattle.plan.specs.Plan.{planOf, namesOf}
+use Rattle.plan.specs.Refusals.{Line, planLines, firstBroken, refusal}
+use Rattle.plan.specs.Claims.{Unbroken, FirstIn}
+use Rattle.plan.specs.Reading.{Accepted}
+use Rattle.plan.proofs.Lists.{all-in, and-is, both, in-map, map-in}
+use Rattle.plan.proofs.First.{on-broken, on-unbroken, first-is, is-first, none-broken, passed}
+use Rattle.plan.proofs.Accepted.{unbroken}
+use Rattle.route.specs.Refusals.{Case, onPlan, broken8, broken11, broken12, broken13, broken14, routeOn, queryLines, sheetLines, checkLines, sheetRefusal}
+use Rattle.route.specs.declared.sheet.Sheet.{Sheet}
+use Rattle.route.specs.Routes.{connects, cost, beltsNamed}
+use Rattle.route.specs.Permission.{passes, allMet}
+use Rattle.route.specs.Sheets.{inForm, beltsOn, costOn, settingOn}
+use Rattle.route.specs.Values.{idsOf}
+use Rattle.route.specs.Inner.{sheetBy, saidRefusal}
+use Rattle.route.specs.Claims.{FirstFindingClaim}
+
+pub finding-claim : FirstFindingClaim
+unfolding sheetRefusal
+finding-claim k n = (λ e. subst Out e (first-is checkLines k), back)
+  where
+    Out : ℕ → Type 0
+    Out m = ((m ≡ 0) × Unbroken checkLines k) ⊎ FirstIn checkLines k m
+
+    back : ((n ≡ 0) × Unbroken checkLines k) ⊎ FirstIn checkLines k n → firstBroken checkLines k ≡ n
+    back (inl h) = none-broken checkLines k (h .1) ∙ sym (h .0)
+    back (inr f) = is-first checkLines k n f
+
+-- ---- lines of plans
+
+module _ (k : Case) (rest : List (Line Case)) where
+  Same : Bool → ℕ → ℕ → ℕ → Type 0
+  Same t n a b = _≡_ {A = ℕ} (elim t [ true ↦ n | false ↦ a ]) (elim t [ true ↦ n | false ↦ b ])
+
+  -- a broken line of the plan is the first of all
+  plan-first : (ls : List (Line (List ℕ))) → (firstBroken ls (k .plan) ≡ 0 → ⊥) → firstBroken (map onPlan ls ++ rest) k ≡ firstBroken ls (k .plan)
+  unfolding Same
+  plan-first [] h = absurd (h refl)
+  plan-first (l ∷ ls) h = go (l .broken (k .plan)) h (plan-first ls)
+    where
+      go : (t : Bool) → (_≡_ {A = ℕ} (elim t [ true ↦ l .number | false ↦ firstBroken ls (k .plan) ]) 0 → ⊥)
+          → ((firstBroken ls (k .plan) ≡ 0 → ⊥) → firstBroken (map onPlan ls ++ rest) k ≡ firstBroken ls (k .plan))
+          → Same t (l .number) (firstBroken (map onPlan ls ++ rest) k) (firstBroken ls (k .plan))
+      go true h below = refl
+      go false h below = below h
+
+  -- where none is broken, the rest decides
+  plan-past : (ls : List (Line (List ℕ))) → Unbroken ls (k .plan) → firstBroken (map onPlan ls ++ rest) k ≡ firstBroken rest k
+  plan-past [] h = refl
+  plan-past (l ∷ ls) h =
+      on-unbroken (onPlan l) (map onPlan ls ++ rest) k (h l (List·Memᴰ·head refl)) ∙ plan-past ls (λ x m. h x (List·Memᴰ·tail m))
+
+abbrev line8 : Line Case
+line8 = record { number = 8; broken = broken8 }
+
+pub refused-plan : (k : Case) → (refusal (k .plan) ≡ 0 → ⊥) → sheetRefusal k ≡ refusal (k .plan)
+unfolding refusal sheetRefusal
+refused-plan k h = plan-first k (line8 ∷ sheetLines) planLines h
+
+-- ---- lines of cases, the plan being accepted
+
+-- the first broken one of lines 11 to 14
+abbrev linesBy : Bool → Bool → Bool → Bool → ℕ
+linesBy a b c d = elim a [ true ↦ 11 | false ↦ elim b [ true ↦ 12 | false ↦ elim c [ true ↦ 13 | false ↦ elim d [ true ↦ 14 | false ↦ 0 ] ] ] ]
+
+lines-sheet : (f x y b c d : Bool) → f ≡ true → linesBy (not (f && x && y)) (not b) (not c) (not d) ≡ sheetBy (x && y) b c d
+lines-sheet f x y b c d e = (λ i. linesBy (not (e i && x && y)) (not b) (not c) (not d)) ∙ go (x && y) b c d
+  where
+    go : (a b c d : Bool) → linesBy (not a) (not b) (not c) (not d) ≡ sheetBy a b c d
+    go false b c d = refl
+    go true false c d = refl
+    go true true false d = refl
+    go true true true false = refl
+    go true true true true = refl
+
+module _ (k : Case) (ok : Accepted (k .plan)) where
+  behind : sheetRefusal k ≡ firstBroken (line8 ∷ sheetLines) k
+  unfolding sheetRefusal
+  behind = plan-past k (line8 ∷ sheetLines) planLines (unbroken (k .plan) (ok .unrefused))
+
+  pub refused-8 : broken8 k ≡ true → sheetRefusal k ≡ 8
+  refused-8 e = behind ∙ on-broken line8 sheetLines k e
+
+  module _ (e8 : broken8 k ≡ false) where
+    by-sheet : sheetRefusal k ≡ linesBy (broken11 k) (broken12 k) (broken13 k) (broken14 k)
+    by-sheet = behind ∙ on-unbroken line8 sheetLines k e8
+
+    -- where the sheet is in the form, what it says decides
+    pub said-refused : (v : Sheet) → inForm (k .sheet) ≡ true → idsOf (v .route) ≡ beltsOn (k .sheet) → v .cost ≡ costOn (k .sheet)
+        → v .setting ≡ settingOn (k .sheet) → sheetRefusal k ≡ saidRefusal (planOf (k .plan)) (k .s) (k .t) v
+    unfolding broken11 broken12 broken13 broken14
+    said-refused v form ids c σ =
+        by-sheet
+        ∙ lines-sheet (inForm (k .sheet)) (all (λ (e : ℕ). mem e (namesOf (planOf (k .plan) .belts))) (beltsOn (k .sheet)))
+        (ltb (settingOn (k .sheet)) (2 ^ planOf (k .plan) .modes)) (connects (k .s) (k .t) (routeOn k)) (eqb (cost (routeOn k)) (costOn (k .sheet)))
+        (allMet (planOf (k .plan) .rules) (passes (routeOn k)) (settingOn (k .sheet))) form
+        ∙ sym (λ i. by (ids i) (c i) (σ i))
+      where
+        by : List ℕ → ℕ → ℕ → ℕ
+        by es c σ =
+            sheetBy (all (λ (e : ℕ). mem e (namesOf (planOf (k .plan) .belts))) es && ltb σ (2 ^ planOf (k .plan) .modes))
+            (connects (k .s) (k .t) (beltsNamed (planOf (k .plan)) es)) (eqb (cost (beltsNamed (planOf (k .plan)) es)) c)
+            (allMet (planOf (k .plan) .rules) (passes (beltsNamed (planOf (k .plan)) es)) σ)
+
+    pub no-form : inForm (k .sheet) ≡ false → sheetRefusal k ≡ 11
+    unfolding broken11
+    no-form e =
+        by-sheet
+        ∙ (λ i. linesBy (not (e i && all (λ (e : ℕ). mem e (namesOf (planOf (k .plan) .belts))) (beltsOn (k .sheet)) && ltb (settingOn (k .sheet)) (2 ^ planOf (k .plan) .modes))) (broken12 k) (broken13 k) (broken14 k))
+
+    pub refused-11 : broken11 k ≡ true → sheetRefusal k ≡ 11
+    refused-11 e = by-sheet ∙ (λ i. linesBy (e i) (broken12 k) (broken13 k) (broken14 k))
+
+    module _ (e11 : broken11 k ≡ false) where
+      pub refused-12 : broken12 k ≡ true → sheetRefusal k ≡ 12
+      refused-12 e = by-sheet ∙ (λ i. linesBy (e11 i) (e i) (broken13 k) (broken14 k))
+
+      module _ (e12 : broken12 k ≡ false) where
+        pub refused-13 : broken13 k ≡ true → sheetRefusal k ≡ 13
+        refused-13 e = by-sheet ∙ (λ i. linesBy (e11 i) (e12 i) (e i) (broken14 k))
+
+        module _ (e13 : broken13 k ≡ false) where
+          pub refused-14 : broken14 k ≡ true → sheetRefusal k ≡ 14
+          refused-14 e = by-sheet ∙ (λ i. linesBy (e11 i) (e12 i) (e13 i) (e i))
+
+          pub none-refused : broken14 k ≡ false → sheetRefusal k ≡ 0
+          none-refused e = by-sheet ∙ (λ i. linesBy (e11 i) (e12 i) (e13 i) (e i))
+
+-- ---- what unbroken lines say
+
+-- no line has the number 0
+from-1 : (l : Line Case) → List·Memᴰ l checkLines → 1 ≤ l .number
+from-1 l m = leb-true 1 (l .number) (all-in (λ (x : Line Case). leb 1 (x .number)) checkLines refl m)
+
+-- what is said of lines 1 to 8, and of the four of the sheet
+pub record Unrefused (k : Case) : Type 0 where
+  pub query : Unbroken queryLines k
+  pub fine-11 : broken11 k ≡ false
+  pub fine-12 : broken12 k ≡ false
+  pub fine-13 : broken13 k ≡ false
+  pub fine-14 : broken14 k ≡ false
+
+pub zero-unrefused : (k : Case) → sheetRefusal k ≡ 0 → Unrefused k
+unfolding sheetRefusal
+zero-unrefused k e =
+    let h = passed checkLines k from-1 e in
+    let sheet : (l : Line Case) → List·Memᴰ l sheetLines → l .broken k ≡ false = λ l m. h l (Memᴰ·append-right queryLines m) in
+    record {
+      query = λ l m. h l (Memᴰ·append-left sheetLines m);
+      fine-11 = sheet _ (List·Memᴰ·head refl);
+      fine-12 = sheet _ (List·Memᴰ·tail (List·Memᴰ·head refl));
+      fine-13 = sheet _ (List·Memᴰ·tail (List·Memᴰ·tail (List·Memᴰ·head refl)));
+      fine-14 = sheet _ (List·Memᴰ·tail (List·Memᴰ·tail (List·Memᴰ·tail (List·Memᴰ·head refl))));
+    }
+
+module _ (k : Case) where
+  pub query-accepted : Unbroken queryLines k → Accepted (k .plan)
+  unfolding refusal
+  query-accepted h = record { unrefused = none-broken planLines (k .plan) (λ l m. h (onPlan l) (Memᴰ·append-left (line8 ∷ []) (in-map onPlan m))) }
+
+  pub query-ends : Unbroken queryLines k → broken8 k ≡ false
+  query-ends h = h line8 (Memᴰ·append-right (map onPlan planLines) (List·Memᴰ·head refl))
+
+  pub unrefused-zero : Unrefused k → sheetRefusal k ≡ 0
+  unrefused-zero u =
+      none-refused k (query-accepted (u .query)) (query-ends (u .query)) (u .fine-11) (u .fine-12) (u .fine-13) (u .fine-14)
+
+  pub ends-query : Accepted (k .plan) → broken8 k ≡ false → Unbroken queryLines k
+  ends-query ok e l m = go (List·Memᴰ·append-cases (map onPlan planLines) m)
+    where
+      go : List·Memᴰ l (map onPlan planLines) ⊎ List·Memᴰ l (line8 ∷ []) → l .broken k ≡ false
+      go (inl a) =
+          let (x, n, q) = map-in onPlan planLines a in
+          ap (λ (y : Line Case). y .broken k) q ∙ unbroken (k .plan) (ok .unrefused) x n
+      go (inr a) = ap (λ (y : Line Case). y .broken k) (List·Memᴰ·eq-of-singleton a) ∙ e
+
+  pub outside-s : not (within 1 (k .s) (planOf (k .plan) .junctions)) ≡ true → broken8 k ≡ true
+  unfolding broken8
+  outside-s e = go (within 1 (k .s) (planOf (k .plan) .junctions)) e
+    where
+      go : (a : Bool) → not a ≡ true → not (a && within 1 (k .t) (planOf (k .plan) .junctions)) ≡ true
+      go true h = absurd (true≢false (sym h))
+      go false h = refl
+
+  pub outside-t : not (within 1 (k .t) (planOf (k .plan) .junctions)) ≡ true → broken8 k ≡ true
+  unfolding broken8
+  outside-t e = go (within 1 (k .s) (planOf (k .plan) .junctions)) (within 1 (k .t) (planOf (k .plan) .junctions)) e
+    where
+      go : (a b : Bool) → not b ≡ true → not (a && b) ≡ true
+      go a true h = absurd (true≢false (sym h))
+      go true false h = refl
+      go false false h = refl
+
+  pub not-outside : not (within 1 (k .s) (planOf (k .plan) .junctions)) ≡ false → not (within 1 (k .t) (planOf (k .plan) .junctions)) ≡ false → broken8 k ≡ false
+  unfolding broken8
+  not-outside a b =
+      ap not (and-is (within 1 (k .s) (planOf (k .plan) .junctions)) (within 1 (k .t) (planOf (k .plan) .junctions))
+      (not-false (within 1 (k .s) (planOf (k .plan) .junctions)) a) (not-false (within 1 (k .t) (planOf (k .plan) .junctions)) b))
+
+  pub inside : 1 ≤ k .s → k .s ≤ planOf (k .plan) .junctions → 1 ≤ k .t → k .t ≤ planOf (k .plan) .junctions → broken8 k ≡ false
+  unfolding broken8
+  inside a b c d =
+      let J = planOf (k .plan) .junctions in
+      let s = and-is (leb 1 (k .s)) (leb (k .s) J) (le-leb 1 (k .s) a) (le-leb (k .s) J b) in
+      let t = and-is (leb 1 (k .t)) (leb (k .t) J) (le-leb 1 (k .t) c) (le-leb (k .t) J d) in
+      ap not (and-is (within 1 (k .s) J) (within 1 (k .t) J) s t)
+
+  pub ends-inside : broken8 k ≡ false → (1 ≤ k .s) × (k .s ≤ planOf (k .plan) .junctions) × (1 ≤ k .t) × (k .t ≤ planOf (k .plan) .junctions)
+  unfolding broken8
+  ends-inside e =
+      let J = planOf (k .plan) .junctions in
+      let w = both (within 1 (k .s) J) (within 1 (k .t) J) (not-false (within 1 (k .s) J && within 1 (k .t) J) e) in
+      let s = both (leb 1 (k .s)) (leb (k .s) J) (w .0) in
+      let t = both (leb 1 (k .t)) (leb (k .t) J) (w .1) in
+      (leb-true 1 (k .s) (s .0), leb-true (k .s) J (s .1), leb-true 1 (k .t) (t .0), leb-true (k .t) J (t .1))

@@ -1,0 +1,86 @@
+-- When bytes are in the form of a sheet, test by test, and the belts on one, step by step.
+--
+--   form-short, form-long, form-odd, form-head
+--                       what is too short, too long, of no whole number of records, or of a wrong record 0 is not in the form
+--   form-steps          all else is in it as its steps are
+--   form-size           the size of what is in the form
+--   length-belts        there are as many belts as steps
+--   beltsFrom h k n     the belts of the steps behind the first k, of n
+--   belts-next          one of them stored, the others are to be stored behind it
+--   belts-done          where none is left nothing is to be stored
+--
+-- Assumes nothing.
+use mathlib.Core.Path.{_≡_, refl, sym, _∙_, ap}
+use mathlib.Core.Bool.{Bool, true, false, _&&_}
+use Prim.Native.Nat.{ℕ, zero, suc, _+_, _-_, _%_, _≤_, _<_}
+use mathlib.Core.List.{List, map}
+use native.Mathlib.Omega.{arith}
+use native.Mathlib.Numerals.{add-one}
+use lib.ListN.{length, set, length-map}
+use lib.Seq.{sets}
+use lib.Dec.{eqb, leb}
+use borrow.Author.Tests.{eqb-true, leb-true, eq-eqb, ne-eqb, le-leb, lt-leb}
+use Rattle.plan.specs.Lists.{all, run, upto, within}
+use Rattle.plan.specs.declared.read.BeltId.{BeltId}
+use Rattle.plan.specs.Records.{field}
+use Rattle.plan.specs.Plan.{beltId}
+use Rattle.plan.proofs.Lists.{both, upto-step, upto-end}
+use Rattle.route.specs.Sheets.{steps, headFits, stepFits, places, inForm, beltsOn}
+
+-- ---- the form
+
+module _ (h : List ℕ) where
+  pub form-short : length h < 12 → inForm h ≡ false
+  unfolding inForm
+  form-short a = rw (lt-leb 12 (length h) a)
+
+  pub form-long : 12 ≤ length h → 3072 < length h → inForm h ≡ false
+  unfolding inForm
+  form-long a b = rw (le-leb 12 (length h) a, lt-leb (length h) 3072 b)
+
+  pub form-odd : 12 ≤ length h → length h ≤ 3072 → (length h % 12 ≡ 0 → ⊥) → inForm h ≡ false
+  unfolding inForm
+  form-odd a b n = rw (le-leb 12 (length h) a, le-leb (length h) 3072 b, ne-eqb (length h % 12) 0 n)
+
+  sized : 12 ≤ length h → length h ≤ 3072 → length h % 12 ≡ 0 → inForm h ≡ (headFits h && all (stepFits h) (places h))
+  unfolding inForm
+  sized a b e = rw (le-leb 12 (length h) a, le-leb (length h) 3072 b, eq-eqb (length h % 12) 0 e)
+
+  pub form-head : 12 ≤ length h → length h ≤ 3072 → length h % 12 ≡ 0 → headFits h ≡ false → inForm h ≡ false
+  form-head a b e f = sized a b e ∙ ap (λ (t : Bool). t && all (stepFits h) (places h)) f
+
+  pub form-steps : 12 ≤ length h → length h ≤ 3072 → length h % 12 ≡ 0 → headFits h ≡ true → all (stepFits h) (places h) ≡ inForm h
+  form-steps a b e f = sym (sized a b e ∙ ap (λ (t : Bool). t && all (stepFits h) (places h)) f)
+
+  pub form-size : inForm h ≡ true → (12 ≤ length h) × (length h ≤ 3072) × (length h % 12 ≡ 0)
+  unfolding inForm
+  form-size t =
+      let s = within 12 (length h) 3072 in
+      let r = eqb (length h % 12) 0 in
+      let k = both (s && r) (headFits h) (both (s && r && headFits h) (all (stepFits h) (places h)) t .0) .0 in
+      let w = both (leb 12 (length h)) (leb (length h) 3072) (both s r k .0) in
+      (leb-true 12 (length h) (w .0), leb-true (length h) 3072 (w .1), eqb-true (length h % 12) 0 (both s r k .1))
+
+-- ---- the belts
+
+length-run : (i n : ℕ) → length (run i n) ≡ n
+length-run i zero = refl
+length-run i (suc n) = ap suc (length-run (suc i) n)
+
+pub length-belts : (h : List ℕ) → length (beltsOn h) ≡ steps h
+length-belts h =
+    let e : steps h + 1 - 1 ≡ steps h = omega arith in
+    length-map (places h) (λ (i : ℕ). field h i 2) ∙ length-run 1 (steps h + 1 - 1) ∙ e
+
+-- the belts of the steps behind the first k, of n
+abbrev pub beltsFrom : List ℕ → ℕ → ℕ → List BeltId
+beltsFrom h k n = map beltId (map (λ (i : ℕ). field h i 2) (upto (k + 1) (n + 1)))
+
+pub belts-next : (h : List ℕ) (belts : List BeltId) (k n e : ℕ) → k < n → e ≡ field h (k + 1) 2
+    → sets (set belts k (beltId e)) (k + 1) (beltsFrom h (k + 1) n) ≡ sets belts k (beltsFrom h k n)
+belts-next h belts k n e l q =
+    (λ i. sets (set belts k (beltId (q i))) (add-one k i) (beltsFrom h (k + 1) n))
+    ∙ sym (ap (λ (is : List ℕ). sets belts k (map beltId (map (λ (i : ℕ). field h i 2) is))) (upto-step (k + 1) (n + 1) (omega arith)))
+
+pub belts-done : (h : List ℕ) (belts : List BeltId) (k n : ℕ) → n ≤ k → sets belts k (beltsFrom h k n) ≡ belts
+belts-done h belts k n l = ap (λ (is : List ℕ). sets belts k (map beltId (map (λ (i : ℕ). field h i 2) is))) (upto-end (k + 1) (n + 1) (omega arith))

@@ -1,0 +1,19 @@
+-- Laws, each file after those that it rests on; the claims are gathered in Claims.
+pub mod Condition
+pub mod Plans
+pub mod Bits
+pub mod Feasible
+pub mod Named
+pub mod Order
+pub mod Enumeration
+pub mod Lowest
+pub mod Held
+pub mod Marks
+pub mod Holding
+pub mod Ahead
+pub mod Stores
+pub mod Forms
+pub mod Readings
+pub mod Checked
+pub mod Solutions
+pub mod Claims

@@ -1,0 +1,158 @@
+-- The first number that passes a test, and the lowest setting.
+--
+--   First f i n o     o is the first of the n numbers from i on that pass, or none, and none of them pass
+--   find-run          `find` over a run finds it; find-is, find-none: so does a number, or none, that is it
+--   find-run-split    the first of n + m numbers is the first of the first n of them, or else that of the other m (otherwise)
+--   find-cong         two tests that agree find the same
+--   halves, weight, all-modes
+--                     a mode counts half of what it and the lower ones make up; it is so in 16 bits; ten make up 1,024
+--   settle-none       without modes the one setting is tested
+--   settle-both       else the settings with the highest mode off come first, then those with it on
+--   lowest-claim      THE CLAIM: `lowest` is the lowest setting that works; there is none exactly when the route is not permitted
+--
+-- Assumes nothing.
+use mathlib.Core.Path.{_≡_, refl, sym, _∙_, ap, subst}
+use mathlib.Core.Logic.{_⊎_, inl, inr}
+use mathlib.Core.Bool.{Bool, true, false}
+use mathlib.Core.Option.{Option, none, some}
+use Prim.Native.Nat.{ℕ, zero, suc, _+_, _*_, _-_, _%_, _^_, _≤_, _<_}
+use mathlib.Core.List.{List, [], _∷_}
+use native.Mathlib.Omega.{arith}
+use native.Mathlib.Nat.{eq-or-lt-of-le, pow-suc, one-mul, mod-eq-of-lt, lt-of-le-of-lt}
+use native.Mathlib.Numerals.{sub-one}
+use lib.Pow.{pow-mono}
+use lib.Dec.{leb, lit<}
+use borrow.Author.Tests.{leb-true, leb-false}
+use Rattle.plan.specs.Lists.{run}
+use Rattle.plan.specs.Plan.{planOf}
+use Rattle.plan.proofs.Lists.{test, never}
+use Rattle.route.specs.Permission.{passes, allMet, Permitted, orElse, find}
+use Rattle.route.specs.Claims.{LowestClaim}
+
+-- the first, or else the second
+abbrev pub otherwise : {A : Type 0} → Option A → Option A → Option A
+otherwise (some x) o = some x
+otherwise none o = o
+
+pub find-cong : {A : Type 0} (f g : A → Bool) (xs : List A) → ((a : A) → f a ≡ g a) → find f xs ≡ find g xs
+find-cong f g [] h = refl
+find-cong f g (x ∷ xs) h = λ i. orElse (h x i) x (find-cong f g xs h i)
+
+-- ---- what a mode counts in a setting
+
+pub halves : (m : ℕ) → 1 ≤ m → 2 ^ (m - 1) + 2 ^ (m - 1) ≡ 2 ^ m
+halves zero h = absurd (omega arith)
+halves (suc k) h = rw (sub-one, pow-suc) (omega arith)
+
+pub weight : (m : ℕ) → m ≤ 10 → (1 * 2 ^ (m - 1)) % 65536 ≡ 2 ^ (m - 1)
+weight m h = rw one-mul (mod-eq-of-lt (lt-of-le-of-lt (pow-mono {i = m - 1} {j = 10} (omega arith)) (lit< tt)))
+
+pub all-modes : (m : ℕ) → m ≤ 10 → 2 ^ m ≤ 1024
+all-modes m h = pow-mono {i = m} {j = 10} h
+
+module _ (f : ℕ → Bool) where
+  -- ---- the first of a run
+
+  abbrev First : ℕ → ℕ → Option ℕ → Type 0
+  First i n none = (τ : ℕ) → i ≤ τ → τ < i + n → f τ ≡ false
+  First i n (some σ) = (i ≤ σ) × (σ < i + n) × (f σ ≡ true) × ((τ : ℕ) → i ≤ τ → τ < σ → f τ ≡ false)
+
+  from-next : (i : ℕ) → f i ≡ false → (τ : ℕ) → i ≤ τ → (suc i ≤ τ → f τ ≡ false) → f τ ≡ false
+  from-next i h τ l below = go (eq-or-lt-of-le l)
+    where
+      go : (i ≡ τ) ⊎ (i < τ) → f τ ≡ false
+      go (inl e) = ap f (sym e) ∙ h
+      go (inr k) = below k
+
+  first-next : (i n : ℕ) → f i ≡ false → (o : Option ℕ) → First (suc i) n o → First i (suc n) o
+  first-next i n h none g = λ τ l u. from-next i h τ l (λ k. g τ k (omega arith))
+  first-next i n h (some σ) g = (omega (arith, g .0), omega (arith, g .1), g .2, λ τ l u. from-next i h τ l (λ k. g .3 τ k u))
+
+  find-run : (i n : ℕ) → First i n (find f (run i n))
+  find-run i zero = λ τ l u. absurd (omega arith)
+  find-run i (suc n) = go (test (f i)) (find-run (suc i) n)
+    where
+      go : (f i ≡ true) ⊎ (f i ≡ false) → First (suc i) n (find f (run (suc i) n)) → First i (suc n) (find f (run i (suc n)))
+      go (inl t) g =
+          let here : First i (suc n) (some i) = (omega arith, omega arith, t, λ τ l u. absurd (omega arith)) in
+          subst (λ (b : Bool). First i (suc n) (orElse b i (find f (run (suc i) n)))) (sym t) here
+      go (inr t) g =
+          subst (λ (b : Bool). First i (suc n) (orElse b i (find f (run (suc i) n)))) (sym t) (first-next i n t (find f (run (suc i) n)) g)
+
+  -- there is only one first
+  first-one : (i n σ : ℕ) → First i n (some σ) → (o : Option ℕ) → First i n o → o ≡ some σ
+  first-one i n σ h none g = absurd (never (h .2) (g σ (h .0) (h .1)))
+  first-one i n σ h (some τ) g = go (test (leb σ τ)) (test (leb τ σ))
+    where
+      go : (leb σ τ ≡ true) ⊎ (leb σ τ ≡ false) → (leb τ σ ≡ true) ⊎ (leb τ σ ≡ false) → some τ ≡ some σ
+      go (inl k) (inl l) = let e : τ ≡ σ = omega (arith, leb-true σ τ k, leb-true τ σ l) in ap {B = Option ℕ} some e
+      go (inr k) l = absurd (never (g .2) (h .3 τ (g .0) (leb-false σ τ k)))
+      go (inl k) (inr l) = absurd (never (h .2) (g .3 σ (h .0) (leb-false τ σ l)))
+
+  find-is : (i n σ : ℕ) → First i n (some σ) → find f (run i n) ≡ some σ
+  find-is i n σ h = first-one i n σ h (find f (run i n)) (find-run i n)
+
+  find-none : (i n : ℕ) → First i n none → find f (run i n) ≡ none
+  find-none i n h = go (find f (run i n)) (find-run i n)
+    where
+      go : (o : Option ℕ) → First i n o → o ≡ none
+      go none g = refl
+      go (some σ) g = absurd (never (g .2) (h σ (g .0) (g .1)))
+
+  -- ---- a run in two parts
+
+  pub find-run-split : (s n m : ℕ) → find f (run s (n + m)) ≡ otherwise (find f (run s n)) (find f (run (s + n) m))
+  find-run-split s zero m =
+      let e : 0 + m ≡ m = omega arith in
+      let z : s ≡ s + 0 = omega arith in
+      λ i. find f (run (z i) (e i))
+  find-run-split s (suc n) m =
+      let e : suc n + m ≡ suc (n + m) = omega arith in
+      let z : suc s + n ≡ s + suc n = omega arith in
+      ap (λ (k : ℕ). find f (run s k)) e
+      ∙ go (f s) (find-run-split (suc s) n m)
+      ∙ ap (λ (k : ℕ). otherwise (find f (run s (suc n))) (find f (run k m))) z
+    where
+      go : (b : Bool) → find f (run (suc s) (n + m)) ≡ otherwise (find f (run (suc s) n)) (find f (run (suc s + n) m))
+          → orElse b s (find f (run (suc s) (n + m))) ≡ otherwise (orElse b s (find f (run (suc s) n))) (find f (run (suc s + n) m))
+      go true h = refl
+      go false h = h
+
+  -- ---- the settings of the modes up to m, the higher ones being as s has them
+
+  pub settle-none : (m s : ℕ) → m ≡ 0 → (b : Bool) → f s ≡ b → find f (run s (2 ^ m)) ≡ orElse b s none
+  settle-none m s e b h = ap (λ (n : ℕ). find f (run s (2 ^ n))) e ∙ ap (λ (t : Bool). orElse t s none) h
+
+  pub settle-both : (m s : ℕ) → 1 ≤ m
+      → find f (run s (2 ^ m)) ≡ otherwise (find f (run s (2 ^ (m - 1)))) (find f (run (s + 2 ^ (m - 1)) (2 ^ (m - 1))))
+  settle-both m s h = ap (λ (n : ℕ). find f (run s n)) (sym (halves m h)) ∙ find-run-split s (2 ^ (m - 1)) (2 ^ (m - 1))
+
+-- ---- settings
+
+pub lowest-claim : LowestClaim
+lowest-claim b r = ((λ σ. (to σ, from σ)), (none-to, none-from))
+  where
+    top : ℕ
+    top = 2 ^ planOf b .modes
+
+    works : ℕ → Bool
+    works σ = allMet (planOf b .rules) (passes r) σ
+
+    is : First works 0 top (find works (run 0 top))
+    is = find-run works 0 top
+
+    to : (σ : ℕ) → find works (run 0 top) ≡ some σ → (σ < top) × (works σ ≡ true) × ((τ : ℕ) → τ < σ → works τ ≡ false)
+    to σ e = let h = subst (First works 0 top) e is in (omega (arith, h .1), h .2, λ τ l. h .3 τ (omega arith) l)
+
+    from : (σ : ℕ) → (σ < top) × (works σ ≡ true) × ((τ : ℕ) → τ < σ → works τ ≡ false) → find works (run 0 top) ≡ some σ
+    from σ h = find-is works 0 top σ (omega arith, omega (arith, h .0), h .1, λ τ l u. h .2 τ u)
+
+    none-to : find works (run 0 top) ≡ none → Permitted (planOf b .rules) (planOf b .modes) r → ⊥
+    none-to e w = never (w .2) (subst (First works 0 top) e is (w .0) (omega arith) (omega (arith, w .1)))
+
+    none-from : (Permitted (planOf b .rules) (planOf b .modes) r → ⊥) → find works (run 0 top) ≡ none
+    none-from h = find-none works 0 top (λ τ l u. go τ (omega (arith, u)) (test (works τ)))
+      where
+        go : (τ : ℕ) → τ < top → (works τ ≡ true) ⊎ (works τ ≡ false) → works τ ≡ false
+        go τ u (inl t) = absurd (h (τ, u, t))
+        go τ u (inr t) = t

@@ -1,0 +1,125 @@
+-- Belts by their names, routes against what the code can test of them, and routes as the code holds them.
+--
+-- The names of a plan's belts rise, so exactly one belt has a given name:
+--   named-map        the belts with the names es, all of them belts, are the belts at these records
+--   names-belts      the belts with the names of a list of the plan's belts are that list
+-- Routes:
+--   connects-route   belts of the plan that connect s to t are a route from s to t
+--   route-connects   a route from s to t connects them
+--   route-belts      its belts are the plan's
+--   route-length     it has at most t - s belts: each leads higher
+--   route-cost       THE BOUND of its cost: 65,535 for each belt
+--   cost-append      the cost of two lists in a row is the sum of theirs
+-- Routes as the code holds them:
+--   ids-packed       a packed route holds the belts that were packed
+--   known-route      the belts that a known Route holds are the belts at their records
+--
+-- Assumes nothing.
+use mathlib.Core.Path.{_≡_, refl, sym, _∙_, ap}
+use mathlib.Core.Logic.{_⊎_, inl, inr}
+use mathlib.Core.Bool.{Bool, true, false}
+use Prim.Native.Nat.{ℕ, _+_, _*_, _-_, _≤_}
+use mathlib.Core.List.{List, [], _∷_, _++_, map, List·Memᴰ, List·Memᴰ·head, List·Memᴰ·tail, List·Memᴰ·not-nil, List·Memᴰ·cases-cons, Memᴰ·cast}
+use native.Mathlib.Omega.{arith}
+use lib.ListN.{length, replicate, length-map}
+use lib.Seq.{take-at}
+use lib.Dec.{eqb}
+use borrow.Author.Tests.{eqb-true, eq-eqb, ne-eqb}
+use Rattle.plan.specs.declared.read.BeltId.{BeltId}
+use Rattle.plan.specs.Lists.{kept, keep}
+use Rattle.plan.specs.Plan.{Belt, Plan, planOf, beltAt, namesOf, beltId}
+use Rattle.plan.specs.Reading.{Accepted, Bytes, IsBelt}
+use Rattle.plan.proofs.Lists.{both, and-is, in-map}
+use Rattle.plan.proofs.Rising.{Rises, more}
+use Rattle.plan.proofs.Reading.{belt-in, belts-rise, belt-ends, belts-cost}
+use Rattle.route.specs.declared.path.Route.{Route}
+use Rattle.route.specs.Routes.{IsRoute, connects, cost, beltsNamed}
+use Rattle.route.specs.Values.{idsOf, packed, Known, routeIn}
+
+-- ---- the belt of a name
+
+-- nothing is kept of a list of which nothing passes
+keep-none : {A : Type 0} (f : A → Bool) (xs : List A) → ((a : A) → List·Memᴰ a xs → f a ≡ false) → keep f xs ≡ []
+keep-none f [] h = refl
+keep-none f (x ∷ xs) h = ap (λ (t : Bool). kept t x (keep f xs)) (h x (List·Memᴰ·head refl)) ∙ keep-none f xs (λ a m. h a (List·Memᴰ·tail m))
+
+-- of belts whose names rise exactly one has the name of x
+one-named : (x : Belt) (xs : List Belt) → Rises (namesOf xs) → List·Memᴰ x xs → keep (λ (y : Belt). eqb (y .name) (x .name)) xs ≡ x ∷ []
+one-named x [] r m = absurd (List·Memᴰ·not-nil m)
+one-named x (y ∷ ys) (more h r) m = go (List·Memᴰ·cases-cons m) (one-named x ys r)
+  where
+    same : Belt → Bool
+    same z = eqb (z .name) (x .name)
+
+    go : (x ≡ y) ⊎ List·Memᴰ x ys → (List·Memᴰ x ys → keep same ys ≡ x ∷ []) → kept (same y) y (keep same ys) ≡ x ∷ []
+    go (inl e) below =
+        let w : y ≡ x = sym e in
+        let n : y .name ≡ x .name = ap (λ (z : Belt). z .name) w in
+        let rest : keep same ys ≡ [] =
+        keep-none same ys (λ z k. ne-eqb (z .name) (x .name) (λ q. omega (arith, h (z .name) (in-map (λ (v : Belt). v .name) k)))) in
+        λ i. kept (eq-eqb (y .name) (x .name) n i) (w i) (rest i)
+    go (inr k) below =
+        let d : same y ≡ false = ne-eqb (y .name) (x .name) (λ q. omega (arith, h (x .name) (in-map (λ (v : Belt). v .name) k))) in
+        ap (λ (t : Bool). kept t y (keep same ys)) d ∙ below k
+
+module _ {b : List ℕ} (ok : Accepted b) where
+  -- the belts of the plan with the name of one of them
+  the-named : (x : Belt) → List·Memᴰ x (planOf b .belts) → keep (λ (y : Belt). eqb (y .name) (x .name)) (planOf b .belts) ≡ x ∷ []
+  the-named x m = one-named x (planOf b .belts) (belts-rise ok) m
+
+  pub named-map : (es : List ℕ) → ((e : ℕ) → List·Memᴰ e es → IsBelt b e) → beltsNamed (planOf b) es ≡ map (beltAt b) es
+  named-map [] h = refl
+  named-map (e ∷ es) h =
+      λ i. the-named (beltAt b e) (belt-in ok e (h e (List·Memᴰ·head refl))) i ++ named-map es (λ f m. h f (List·Memᴰ·tail m)) i
+
+  pub names-belts : (r : List Belt) → ((e : Belt) → List·Memᴰ e r → List·Memᴰ e (planOf b .belts)) → beltsNamed (planOf b) (namesOf r) ≡ r
+  names-belts [] h = refl
+  names-belts (x ∷ r) h = λ i. the-named x (h x (List·Memᴰ·head refl)) i ++ names-belts r (λ f m. h f (List·Memᴰ·tail m)) i
+
+  -- ---- routes
+
+  pub connects-route : (s t : ℕ) (r : List Belt) → ((e : Belt) → List·Memᴰ e r → List·Memᴰ e (planOf b .belts))
+      → connects s t r ≡ true → IsRoute (planOf b) s t r
+  connects-route s t [] h c = eqb-true s t c
+  connects-route s t (e ∷ r) h c =
+      let (k, l) = both (eqb (e .leaves) s) (connects (e .leads) t r) c in
+      (h e (List·Memᴰ·head refl), eqb-true (e .leaves) s k, connects-route (e .leads) t r (λ f m. h f (List·Memᴰ·tail m)) l)
+
+  pub route-length : (s t : ℕ) (r : List Belt) → IsRoute (planOf b) s t r → s + length r ≤ t
+  route-length s t [] h = omega arith
+  route-length s t (e ∷ r) h = omega (arith, h .1, belt-ends ok e (h .0) .1, route-length (e .leads) t r (h .2))
+
+  pub route-cost : Bytes b → (s t : ℕ) (r : List Belt) → IsRoute (planOf b) s t r → cost r ≤ 65535 * length r
+  route-cost bytes s t [] h = omega arith
+  route-cost bytes s t (e ∷ r) h = omega (arith, belts-cost ok bytes e (h .0), route-cost bytes (e .leads) t r (h .2))
+
+pub route-connects : (p : Plan) (s t : ℕ) (r : List Belt) → IsRoute p s t r → connects s t r ≡ true
+route-connects p s t [] h = eq-eqb s t h
+route-connects p s t (e ∷ r) h =
+    and-is (eqb (e .leaves) s) (connects (e .leads) t r) (eq-eqb (e .leaves) s (h .1)) (route-connects p (e .leads) t r (h .2))
+
+pub route-belts : (p : Plan) (s t : ℕ) (r : List Belt) → IsRoute p s t r → (e : Belt) → List·Memᴰ e r → List·Memᴰ e (p .belts)
+route-belts p s t [] h e m = absurd (List·Memᴰ·not-nil m)
+route-belts p s t (f ∷ r) h e m = go (List·Memᴰ·cases-cons m) (route-belts p (f .leads) t r (h .2) e)
+  where
+    go : (e ≡ f) ⊎ List·Memᴰ e r → (List·Memᴰ e r → List·Memᴰ e (p .belts)) → List·Memᴰ e (p .belts)
+    go (inl q) below = Memᴰ·cast q (h .0)
+    go (inr k) below = below k
+
+pub cost-append : (x y : List Belt) → cost (x ++ y) ≡ cost x + cost y
+cost-append [] y = omega arith
+cost-append (e ∷ x) y = omega (arith, cost-append x y)
+
+-- ---- routes as the code holds them
+
+ids-back : (es : List ℕ) → map (λ (e : BeltId). e .0) (map beltId es) ≡ es
+ids-back [] = refl
+ids-back (e ∷ es) = ap (λ (l : List ℕ). e ∷ l) (ids-back es)
+
+pub ids-packed : (es : List ℕ) → length es ≤ 255 → idsOf (packed es) ≡ es
+ids-packed es h =
+    ap (map (λ (e : BeltId). e .0)) (take-at (map beltId es) (replicate (255 - length es) (beltId 0)) (length es) (length-map es beltId))
+    ∙ ids-back es
+
+pub known-route : {b : List ℕ} → Accepted b → (r : Route) → Known b r → routeIn b r ≡ map (beltAt b) (idsOf r)
+known-route ok r k = named-map ok (idsOf r) (k .belts)

@@ -1,0 +1,180 @@
+-- "Comes before" is a strict total order on the routes from s to t.
+--
+--   before-cases       a comes before b: it costs less, or as much and is lower at the first difference
+--   not-before-cases   a does not come before b: it costs more, or as much and is not lower at the first difference
+--   before-irrefl      no list comes before itself
+--   before-asym        of two lists at most one comes before the other
+--   before-trans       what comes before one that comes before a third comes before the third
+--   not-before-trans   the same of "does not come before"
+--   before-total       two routes from s to t of which neither comes before the other are equal
+--   no-longer          no route from s to t goes on where another ends
+--   order-claim        all this as it is claimed (OrderClaim)
+--
+-- Assumes nothing.
+use mathlib.Core.Path.{_≡_, refl, sym, _∙_, ap, subst}
+use mathlib.Core.Logic.{_⊎_, inl, inr}
+use mathlib.Core.Bool.{Bool, true, false, _&&_, _||_, true≢false}
+use Prim.Native.Nat.{ℕ, _≤_, _<_}
+use mathlib.Core.List.{List, [], _∷_, _++_}
+use native.Mathlib.Omega.{arith}
+use lib.Dec.{eqb, ltb}
+use borrow.Author.Tests.{eqb-true, eqb-false, eq-eqb, ne-eqb, ltb-true, ltb-false, lt-ltb, le-ltb}
+use Rattle.plan.specs.Plan.{Belt, planOf}
+use Rattle.plan.specs.Reading.{Accepted}
+use Rattle.plan.proofs.Lists.{test, both, either, neither}
+use Rattle.plan.proofs.Reading.{belt-name}
+use Rattle.route.specs.Routes.{IsRoute, cost, first, lower, before}
+use Rattle.route.specs.Claims.{OrderClaim}
+use Rattle.route.proofs.Named.{route-length}
+
+-- ---- one number, and the rest
+
+module _ (m n : ℕ) (x : Bool) where
+  first-eq : m ≡ n → first m n x ≡ x
+  first-eq e = λ i. le-ltb m n (omega arith) i || (eq-eqb m n e i && x)
+
+  first-lt : m < n → first m n x ≡ true
+  first-lt h = ap (λ (t : Bool). t || (eqb m n && x)) (lt-ltb m n h)
+
+  first-gt : n < m → first m n x ≡ false
+  first-gt h = λ i. le-ltb m n (omega arith) i || (ne-eqb m n (λ e. omega arith) i && x)
+
+  first-true : first m n x ≡ true → (m < n) ⊎ ((m ≡ n) × (x ≡ true))
+  first-true h = go (either (ltb m n) (eqb m n && x) h)
+    where
+      go : (ltb m n ≡ true) ⊎ ((eqb m n && x) ≡ true) → (m < n) ⊎ ((m ≡ n) × (x ≡ true))
+      go (inl l) = inl (ltb-true m n l)
+      go (inr k) = let (e, t) = both (eqb m n) x k in inr (eqb-true m n e, t)
+
+  first-false : first m n x ≡ false → (n < m) ⊎ ((m ≡ n) × (x ≡ false))
+  first-false h = let (l, k) = neither (ltb m n) (eqb m n && x) h in go (ltb-false m n l) k (test (eqb m n))
+    where
+      go : n ≤ m → (eqb m n && x) ≡ false → (eqb m n ≡ true) ⊎ (eqb m n ≡ false) → (n < m) ⊎ ((m ≡ n) × (x ≡ false))
+      go l k (inl e) = inr (eqb-true m n e, ap (λ (t : Bool). t && x) (sym e) ∙ k)
+      go l k (inr e) = let d : m ≡ n → ⊥ = eqb-false m n e in inl (omega arith)
+
+-- where neither way round holds, the numbers are equal and so neither rest holds
+neither-first : (m n : ℕ) (x y : Bool) → first m n x ≡ false → first n m y ≡ false → (m ≡ n) × (x ≡ false) × (y ≡ false)
+neither-first m n x y h k = go (first-false m n x h) (first-false n m y k)
+  where
+    go : (n < m) ⊎ ((m ≡ n) × (x ≡ false)) → (m < n) ⊎ ((n ≡ m) × (y ≡ false)) → (m ≡ n) × (x ≡ false) × (y ≡ false)
+    go (inl u) (inl v) = absurd (omega arith)
+    go (inl u) (inr v) = absurd (omega (arith, v .0))
+    go (inr u) (inl v) = absurd (omega (arith, u .0))
+    go (inr u) (inr v) = (u .0, u .1, v .1)
+
+first-asym : (m n : ℕ) (x y : Bool) → (x ≡ true → y ≡ false) → first m n x ≡ true → first n m y ≡ false
+first-asym m n x y below h = go (first-true m n x h)
+  where
+    go : (m < n) ⊎ ((m ≡ n) × (x ≡ true)) → first n m y ≡ false
+    go (inl a) = first-gt n m y a
+    go (inr a) = first-eq n m y (sym (a .0)) ∙ below (a .1)
+
+module _ (l m n : ℕ) (x y z : Bool) where
+  first-trans : (x ≡ true → y ≡ true → z ≡ true) → first l m x ≡ true → first m n y ≡ true → first l n z ≡ true
+  first-trans below h k = go (first-true l m x h) (first-true m n y k)
+    where
+      go : (l < m) ⊎ ((l ≡ m) × (x ≡ true)) → (m < n) ⊎ ((m ≡ n) × (y ≡ true)) → first l n z ≡ true
+      go (inl a) (inl b) = first-lt l n z (omega arith)
+      go (inl a) (inr b) = first-lt l n z (omega (arith, b .0))
+      go (inr a) (inl b) = first-lt l n z (omega (arith, a .0))
+      go (inr a) (inr b) = first-eq l n z (a .0 ∙ b .0) ∙ below (a .1) (b .1)
+
+  not-first-trans : (x ≡ false → y ≡ false → z ≡ false) → first l m x ≡ false → first m n y ≡ false → first l n z ≡ false
+  not-first-trans below h k = go (first-false l m x h) (first-false m n y k)
+    where
+      go : (m < l) ⊎ ((l ≡ m) × (x ≡ false)) → (n < m) ⊎ ((m ≡ n) × (y ≡ false)) → first l n z ≡ false
+      go (inl a) (inl b) = first-gt l n z (omega arith)
+      go (inl a) (inr b) = first-gt l n z (omega (arith, b .0))
+      go (inr a) (inl b) = first-gt l n z (omega (arith, a .0))
+      go (inr a) (inr b) = first-eq l n z (a .0 ∙ b .0) ∙ below (a .1) (b .1)
+
+-- ---- lower at the first difference
+
+lower-irrefl : (a : List Belt) → lower a a ≡ false
+lower-irrefl [] = refl
+lower-irrefl (e ∷ a) = first-eq (e .name) (e .name) (lower a a) refl ∙ lower-irrefl a
+
+lower-asym : (a b : List Belt) → lower a b ≡ true → lower b a ≡ false
+lower-asym [] [] h = refl
+lower-asym [] (f ∷ b) h = refl
+lower-asym (e ∷ a) [] h = absurd (true≢false (sym h))
+lower-asym (e ∷ a) (f ∷ b) h = first-asym (e .name) (f .name) (lower a b) (lower b a) (lower-asym a b) h
+
+lower-trans : (a b c : List Belt) → lower a b ≡ true → lower b c ≡ true → lower a c ≡ true
+lower-trans [] [] c h k = absurd (true≢false (sym h))
+lower-trans [] (f ∷ b) [] h k = absurd (true≢false (sym k))
+lower-trans [] (f ∷ b) (g ∷ c) h k = refl
+lower-trans (e ∷ a) [] c h k = absurd (true≢false (sym h))
+lower-trans (e ∷ a) (f ∷ b) [] h k = absurd (true≢false (sym k))
+lower-trans (e ∷ a) (f ∷ b) (g ∷ c) h k =
+    first-trans (e .name) (f .name) (g .name) (lower a b) (lower b c) (lower a c) (lower-trans a b c) h k
+
+not-lower-trans : (a b c : List Belt) → lower a b ≡ false → lower b c ≡ false → lower a c ≡ false
+not-lower-trans [] [] [] h k = refl
+not-lower-trans [] [] (g ∷ c) h k = absurd (true≢false k)
+not-lower-trans [] (f ∷ b) c h k = absurd (true≢false h)
+not-lower-trans (e ∷ a) b [] h k = refl
+not-lower-trans (e ∷ a) [] (g ∷ c) h k = absurd (true≢false k)
+not-lower-trans (e ∷ a) (f ∷ b) (g ∷ c) h k =
+    not-first-trans (e .name) (f .name) (g .name) (lower a b) (lower b c) (lower a c) (not-lower-trans a b c) h k
+
+-- ---- comes before
+
+pub before-cases : (a b : List Belt) → before a b ≡ true → (cost a < cost b) ⊎ ((cost a ≡ cost b) × (lower a b ≡ true))
+before-cases a b h = first-true (cost a) (cost b) (lower a b) h
+
+pub not-before-cases : (a b : List Belt) → before a b ≡ false → (cost b < cost a) ⊎ ((cost a ≡ cost b) × (lower a b ≡ false))
+not-before-cases a b h = first-false (cost a) (cost b) (lower a b) h
+
+pub before-irrefl : (a : List Belt) → before a a ≡ false
+before-irrefl a = first-eq (cost a) (cost a) (lower a a) refl ∙ lower-irrefl a
+
+pub before-asym : (a b : List Belt) → before a b ≡ true → before b a ≡ false
+before-asym a b h = first-asym (cost a) (cost b) (lower a b) (lower b a) (lower-asym a b) h
+
+pub before-trans : (a b c : List Belt) → before a b ≡ true → before b c ≡ true → before a c ≡ true
+before-trans a b c h k = first-trans (cost a) (cost b) (cost c) (lower a b) (lower b c) (lower a c) (lower-trans a b c) h k
+
+pub not-before-trans : (a b c : List Belt) → before a b ≡ false → before b c ≡ false → before a c ≡ false
+not-before-trans a b c h k = not-first-trans (cost a) (cost b) (cost c) (lower a b) (lower b c) (lower a c) (not-lower-trans a b c) h k
+
+-- ---- of two different routes one comes before the other
+
+module _ {b : List ℕ} (ok : Accepted b) where
+  -- two routes that differ do so in a belt's name, or one of them goes on where the other ends
+  lower-total : (s t : ℕ) (x y : List Belt) → IsRoute (planOf b) s t x → IsRoute (planOf b) s t y → lower x y ≡ false → lower y x ≡ false → x ≡ y
+  lower-total s t [] [] p q h k = refl
+  lower-total s t [] (f ∷ y) p q h k = absurd (true≢false h)
+  lower-total s t (e ∷ x) [] p q h k = absurd (true≢false k)
+  lower-total s t (e ∷ x) (f ∷ y) p q h k =
+      let (n, l, r) = neither-first (e .name) (f .name) (lower x y) (lower y x) h k in
+      let g : e ≡ f = belt-name ok e f (p .0) (q .0) n in
+      let w : IsRoute (planOf b) (e .leads) t y = subst (λ (u : Belt). IsRoute (planOf b) (u .leads) t y) (sym g) (q .2) in
+      let rest : x ≡ y = lower-total (e .leads) t x y (p .2) w l r in
+      λ i. g i ∷ rest i
+
+  pub before-total : (s t : ℕ) (x y : List Belt) → IsRoute (planOf b) s t x → IsRoute (planOf b) s t y
+      → before x y ≡ false → before y x ≡ false → x ≡ y
+  before-total s t x y p q h k =
+      let (n, l, r) = neither-first (cost x) (cost y) (lower x y) (lower y x) h k in
+      lower-total s t x y p q l r
+
+  -- a belt leads higher, so a route from t to t is empty
+  ends : (t : ℕ) (y : List Belt) → IsRoute (planOf b) t t y → y ≡ []
+  ends t [] q = refl
+  ends t (e ∷ y) q = absurd (omega (arith, route-length ok t t (e ∷ y) q))
+
+  pub no-longer : (s t : ℕ) (x y : List Belt) → IsRoute (planOf b) s t x → IsRoute (planOf b) s t (x ++ y) → y ≡ []
+  no-longer s t [] y p q = ends t y (subst (λ (u : ℕ). IsRoute (planOf b) u t y) p q)
+  no-longer s t (e ∷ x) y p q = no-longer (e .leads) t x y (p .2) (q .2)
+
+pub order-claim : OrderClaim
+order-claim b ok s t =
+    (before-irrefl, before-trans, λ x y p q d. go x y p q d (test (before x y)) (test (before y x)), no-longer ok s t)
+  where
+    go : (x y : List Belt) → IsRoute (planOf b) s t x → IsRoute (planOf b) s t y → (x ≡ y → ⊥)
+        → (before x y ≡ true) ⊎ (before x y ≡ false) → (before y x ≡ true) ⊎ (before y x ≡ false) → (before x y ≡ true) ⊎ (before y x ≡ true)
+    go x y p q d (inl h) k = inl h
+    go x y p q d (inr h) (inl k) = inr k
+    go x y p q d (inr h) (inr k) = absurd (d (before-total ok s t x y p q h k))

@@ -1,0 +1,120 @@
+-- An accepted plan is an instance of the published problem (specs/Lcsp.antt, specs/Instances.antt).
+--
+--   plan-instance   its belts join junctions, no path of them comes back, no two are of one number, and its rules name only its own
+--                   belts and modes
+--   cost-weight     the cost of a route is the weight of its path
+--   route-path      a route's belts are a path
+--   path-route      belts whose arcs are a path are a route
+--   arcs-belts      every list of arcs is that of some belts
+--
+-- Assumes nothing.
+use mathlib.Core.Path.{_≡_, refl, sym, _∙_, ap, subst}
+use Prim.Native.Nat.{ℕ, suc, _+_, _≤_, _<_}
+use mathlib.Core.List.{List, [], _∷_, map, List·Memᴰ, Memᴰ·append-left, Memᴰ·append-right, Memᴰ·cast}
+use native.Mathlib.Omega.{arith}
+use Rattle.plan.specs.declared.read.Literal.{Literal}
+use Rattle.plan.specs.declared.read.Literal.the-variants.{OfBelt, OfMode}
+use Rattle.plan.specs.Plan.{Belt, Plan, planOf}
+use Rattle.plan.specs.Reading.{Accepted}
+use Rattle.plan.proofs.Lists.{in-map, map-in, in-upto}
+use Rattle.plan.proofs.Reading.{belt-in, belt-name, belt-ends, literal-belt, literal-mode}
+use Rattle.route.specs.Lcsp.{free, Lit, Clause, Arc, arcVar, variables, IsPath, IsInstance}
+use Rattle.route.specs.Routes.{IsRoute, cost}
+use Rattle.route.specs.Instances.{arcOf, litOf, modesOf, instanceOf}
+use Rattle.route.specs.Claims.{InstanceClaim, CostClaim}
+
+-- ---- paths and routes
+
+-- the belt of an arc
+abbrev beltOf : Arc → Belt
+beltOf a = record { name = a .number; leaves = a .tail; leads = a .head; cost = a .weight }
+
+arcs-back : (q : List Arc) → q ≡ map arcOf (map beltOf q)
+arcs-back [] = refl
+arcs-back (a ∷ q) = ap (λ (r : List Arc). a ∷ r) (arcs-back q)
+
+pub arcs-belts : (q : List Arc) → (r : List Belt) × (q ≡ map arcOf r)
+arcs-belts q = (map beltOf q, arcs-back q)
+
+pub cost-weight : CostClaim
+cost-weight [] = refl
+cost-weight (e ∷ r) = ap (λ (n : ℕ). e .cost + n) (cost-weight r)
+
+module _ (p : Plan) (t : ℕ) where
+  pub route-path : (s : ℕ) (r : List Belt) → IsRoute p s t r → IsPath (map arcOf (p .belts)) s t (map arcOf r)
+  route-path s [] h = h
+  route-path s (e ∷ r) h = (in-map arcOf (h .0), h .1, route-path (e .leads) r (h .2))
+
+  pub path-route : (s : ℕ) (r : List Belt) → IsPath (map arcOf (p .belts)) s t (map arcOf r) → IsRoute p s t r
+  path-route s [] h = h
+  path-route s (e ∷ r) h =
+      let (x, m, q) = map-in arcOf (p .belts) (h .0) in
+      (Memᴰ·cast (ap beltOf q) m, h .1, path-route (e .leads) r (h .2))
+
+-- ---- an accepted plan is an instance
+
+module _ {b : List ℕ} (ok : Accepted b) where
+  abbrev arcs : List Arc
+  arcs = map arcOf (planOf b .belts)
+
+  -- an arc joins two junctions, and leads to the higher one
+  arc-ends : (a : Arc) → List·Memᴰ a arcs → (1 ≤ a .tail) × (a .tail < a .head) × (a .head ≤ planOf b .junctions)
+  arc-ends a m =
+      let (x, k, q) = map-in arcOf (planOf b .belts) m in
+      subst (λ (c : Arc). (1 ≤ c .tail) × (c .tail < c .head) × (c .head ≤ planOf b .junctions)) (sym q) (belt-ends ok x k)
+
+  -- so a path never leads lower
+  path-rises : (u v : ℕ) (q : List Arc) → IsPath arcs u v q → u ≤ v
+  path-rises u v [] h = let e : u ≡ v = h in omega arith
+  path-rises u v (a ∷ q) h = omega (arith, arc-ends a (h .0) .1, h .1, path-rises (a .head) v q (h .2))
+
+  no-cycle : (v : ℕ) (a : Arc) (q : List Arc) → IsPath arcs v v (a ∷ q) → ⊥
+  no-cycle v a q h = omega (arith, arc-ends a (h .0) .1, h .1, path-rises (a .head) v q (h .2))
+
+  one-number : (a c : Arc) → List·Memᴰ a arcs → List·Memᴰ c arcs → arcVar a ≡ arcVar c → a ≡ c
+  one-number a c m n e =
+      let (x, j, p) = map-in arcOf (planOf b .belts) m in
+      let (y, k, q) = map-in arcOf (planOf b .belts) n in
+      let same : a .number ≡ c .number = cc in
+      let number : x .name ≡ y .name = sym (ap (λ (d : Arc). d .number) p) ∙ same ∙ ap (λ (d : Arc). d .number) q in
+      p ∙ ap arcOf (belt-name ok x y j k number) ∙ sym q
+
+  node : (j : ℕ) → 1 ≤ j → j ≤ planOf b .junctions → (s t : ℕ) → List·Memᴰ j (instanceOf (planOf b) s t .nodes)
+  node j l u s t = in-upto 1 (suc (planOf b .junctions)) j l (omega arith)
+
+  -- what a literal of a rule names is a variable of the instance
+  names-variable : (s t : ℕ) (rule : List Literal) → List·Memᴰ rule (planOf b .rules) → (x : Literal) → List·Memᴰ x rule
+      → List·Memᴰ (litOf x .var) (variables (instanceOf (planOf b) s t))
+  names-variable s t rule m (OfBelt e wanted) k =
+      Memᴰ·append-left (map free (modesOf (planOf b .modes))) (in-map arcVar (in-map arcOf (belt-in ok (e .0) (literal-belt ok rule m e wanted k))))
+  names-variable s t rule m (OfMode n wanted) k =
+      let h = literal-mode ok rule m n wanted k in
+      Memᴰ·append-right (map arcVar arcs) (in-map free (in-upto 1 (suc (planOf b .modes)) (n .0) (h .0) (omega (arith, h .1))))
+
+  over : (s t : ℕ) (α : Clause) → List·Memᴰ α (instanceOf (planOf b) s t .formula) → (l : Lit) → List·Memᴰ l α
+      → List·Memᴰ (l .var) (variables (instanceOf (planOf b) s t))
+  over s t α m l k =
+      let (rule, n, q) = map-in (map litOf) (planOf b .rules) m in
+      let (x, i, e) = map-in litOf rule (subst (List·Memᴰ l) q k) in
+      subst (λ (y : Lit). List·Memᴰ (y .var) (variables (instanceOf (planOf b) s t))) (sym e) (names-variable s t rule n x i)
+
+  instance-is : (s t : ℕ) → 1 ≤ s → s ≤ planOf b .junctions → 1 ≤ t → t ≤ planOf b .junctions → IsInstance (instanceOf (planOf b) s t)
+  instance-is s t ls us lt ut = record {
+    joins = joins;
+    acyclic = no-cycle;
+    bijection = one-number;
+    starts = node s ls us s t;
+    ends = node t lt ut s t;
+    over = over s t;
+  }
+    where
+      joins : (a : Arc) → List·Memᴰ a arcs
+          → List·Memᴰ (a .tail) (instanceOf (planOf b) s t .nodes) × List·Memᴰ (a .head) (instanceOf (planOf b) s t .nodes)
+      joins a m =
+          let h = arc-ends a m in
+          let top : a .tail ≤ planOf b .junctions = omega (arith, h .1, h .2) in
+          let low : 1 ≤ a .head = omega (arith, h .0, h .1) in
+          (node (a .tail) (h .0) top s t, node (a .head) low (h .2) s t)
+
+pub plan-instance : InstanceClaim
+plan-instance b ok = instance-is ok

@@ -1,0 +1,243 @@
+-- Demand 2: what the check accepts are the sheets of feasible solutions, and every sheet of a permitted route is accepted.
+--
+--   fine-sheet, sheet-fine   line 11 is unbroken exactly where the sheet is in the form, names belts, and its setting is below 2^M
+--   accepted-solved          an accepted sheet reads as a feasible solution
+--   solved-accepted          a sheet that reads as a feasible solution is accepted
+--   check-claim              both (CheckClaim)
+--   written-claim            the sheet of a permitted route with its lowest setting is accepted (WrittenClaim)
+--
+-- Assumes nothing.
+use mathlib.Core.Path.{_≡_, refl, sym, _∙_, ap, subst}
+use mathlib.Core.Bool.{Bool, true, false, not, _&&_}
+use mathlib.Core.Option.{some}
+use Prim.Native.Nat.{ℕ, _+_, _*_, _^_, _≤_, _<_}
+use mathlib.Core.List.{List, [], _∷_, map, List·Memᴰ}
+use native.Mathlib.Omega.{arith}
+use lib.ListN.{length, length-map}
+use lib.Pow.{pow-mono}
+use lib.Dec.{eqb, ltb}
+use borrow.Author.Tests.{eqb-true, eq-eqb, ltb-true, lt-ltb, not-false}
+use Rattle.plan.specs.Lists.{all, mem, keep}
+use Rattle.plan.specs.Plan.{Belt, Plan, planOf, beltAt, namesOf}
+use Rattle.plan.specs.Claims.{Unbroken}
+use Rattle.plan.specs.Reading.{Accepted, Bytes, IsBelt}
+use Rattle.plan.proofs.Lists.{and-is, both, all-in, all-is, in-map, map-in, in-mem, joined-in, keep-in}
+use Rattle.plan.proofs.Reading.{plan-sizes, belt-of, belt-low, name-belt}
+use Rattle.route.specs.Lcsp.{Arc, weightOf, FeasibleBy}
+use Rattle.route.specs.Routes.{IsRoute, connects, cost, beltsNamed}
+use Rattle.route.specs.Permission.{passes, allMet, lowest}
+use Rattle.route.specs.Instances.{arcOf, instanceOf, joint}
+use Rattle.route.specs.Sheets.{sheetOf, Reads, inForm, beltsOn, costOn, settingOn}
+use Rattle.route.specs.Refusals.{Case, broken11, broken12, broken13, broken14, routeOn, queryLines, sheetRefusal}
+use Rattle.route.specs.Claims.{Solution, ReadsSolved, CheckClaim, WrittenClaim}
+use Rattle.route.proofs.Plans.{arcs-belts, cost-weight}
+use Rattle.route.proofs.Feasible.{joint-feasible, feasible-joint}
+use Rattle.route.proofs.Named.{named-map, names-belts, connects-route, route-connects, route-belts, route-length, route-cost}
+use Rattle.route.proofs.Lowest.{lowest-claim}
+use Rattle.route.proofs.Readings.{round-trip, reading-claim}
+use Rattle.route.proofs.Checked.{Unrefused, zero-unrefused, unrefused-zero, query-accepted, ends-query, inside}
+
+-- ---- line 11
+
+pub record FineSheet (k : Case) : Type 0 where
+  pub form : inForm (k .sheet) ≡ true
+  pub known : all (λ (e : ℕ). mem e (namesOf (planOf (k .plan) .belts))) (beltsOn (k .sheet)) ≡ true
+  pub low : ltb (settingOn (k .sheet)) (2 ^ planOf (k .plan) .modes) ≡ true
+
+module _ (k : Case) where
+  abbrev formed : Bool
+  formed = inForm (k .sheet)
+
+  abbrev belted : Bool
+  belted = all (λ (e : ℕ). mem e (namesOf (planOf (k .plan) .belts))) (beltsOn (k .sheet))
+
+  abbrev lowSet : Bool
+  lowSet = ltb (settingOn (k .sheet)) (2 ^ planOf (k .plan) .modes)
+
+  pub fine-sheet : broken11 k ≡ false → FineSheet k
+  unfolding broken11
+  fine-sheet e =
+      let h = both (formed && belted) lowSet (not-false (formed && belted && lowSet) e) in
+      let g = both formed belted (h .0) in
+      record { form = g .0; known = g .1; low = h .1 }
+
+  pub sheet-fine : FineSheet k → broken11 k ≡ false
+  unfolding broken11
+  sheet-fine f = ap not (and-is (formed && belted) lowSet (and-is formed belted (f .form) (f .known)) (f .low))
+
+-- ---- belts and arcs
+
+numbers-names : (r : List Belt) → map (λ (a : Arc). a .number) (map arcOf r) ≡ namesOf r
+numbers-names [] = refl
+numbers-names (e ∷ r) = ap (λ (l : List ℕ). e .name ∷ l) (numbers-names r)
+
+names-at : (b es : List ℕ) → namesOf (map (beltAt b) es) ≡ es
+names-at b [] = refl
+names-at b (e ∷ es) = ap (λ (l : List ℕ). e ∷ l) (names-at b es)
+
+-- belts by their names are belts of the plan
+named-in : (p : Plan) (es : List ℕ) (e : Belt) → List·Memᴰ e (beltsNamed p es) → List·Memᴰ e (p .belts)
+named-in p es e m =
+    let (n, i, k) = joined-in (λ (n : ℕ). keep (λ (x : Belt). eqb (x .name) n) (p .belts)) es m in
+    keep-in (λ (x : Belt). eqb (x .name) n) (p .belts) k .0
+
+-- ---- an accepted sheet reads as a feasible solution
+
+module _ (k : Case) (bytes : Bytes (k .sheet)) (u : Unrefused k) where
+  ok : Accepted (k .plan)
+  ok = query-accepted k (u .query)
+
+  fine : FineSheet k
+  fine = fine-sheet k (u .fine-11)
+
+  abbrev es : List ℕ
+  es = beltsOn (k .sheet)
+
+  are-belts : (e : ℕ) → List·Memᴰ e es → IsBelt (k .plan) e
+  are-belts e m = name-belt ok e (all-in (λ (e : ℕ). mem e (namesOf (planOf (k .plan) .belts))) es (fine .known) m)
+
+  route : IsRoute (planOf (k .plan)) (k .s) (k .t) (routeOn k)
+  unfolding broken12
+  route =
+      connects-route ok (k .s) (k .t) (routeOn k) (named-in (planOf (k .plan)) es)
+      (not-false (connects (k .s) (k .t) (routeOn k)) (u .fine-12))
+
+  names : namesOf (routeOn k) ≡ es
+  names = ap namesOf (named-map ok es are-belts) ∙ names-at (k .plan) es
+
+  sum : cost (routeOn k) ≡ costOn (k .sheet)
+  unfolding broken13
+  sum = eqb-true (cost (routeOn k)) (costOn (k .sheet)) (not-false (eqb (cost (routeOn k)) (costOn (k .sheet))) (u .fine-13))
+
+  met : allMet (planOf (k .plan) .rules) (passes (routeOn k)) (settingOn (k .sheet)) ≡ true
+  unfolding broken14
+  met = not-false (allMet (planOf (k .plan) .rules) (passes (routeOn k)) (settingOn (k .sheet))) (u .fine-14)
+
+  accepted-solved : ReadsSolved k
+  accepted-solved = record {
+    belts = es;
+    cost = costOn (k .sheet);
+    setting = settingOn (k .sheet);
+    reads = reading-claim (k .sheet) bytes .0 (fine .form);
+    solution = record {
+      path = map arcOf (routeOn k);
+      belts = numbers-names (routeOn k) ∙ names;
+      cost = sym (cost-weight (routeOn k)) ∙ sum;
+      setting = ltb-true (settingOn (k .sheet)) (2 ^ planOf (k .plan) .modes) (fine .low);
+      feasible = joint-feasible ok (k .s) (k .t) (routeOn k) (settingOn (k .sheet)) route met;
+    };
+  }
+
+-- ---- a sheet that reads as a feasible solution is accepted
+
+module _ (k : Case) (query : Unbroken queryLines k) (x : ReadsSolved k) where
+  okay : Accepted (k .plan)
+  okay = query-accepted k query
+
+  abbrev p : Plan
+  p = planOf (k .plan)
+
+  back : (inForm (k .sheet) ≡ true) × (beltsOn (k .sheet) ≡ x .belts) × (costOn (k .sheet) ≡ x .cost) × (settingOn (k .sheet) ≡ x .setting)
+  back = round-trip (k .sheet) (x .belts) (x .cost) (x .setting) (x .reads)
+
+  abbrev r : List Belt
+  r = arcs-belts (x .solution .path) .0
+
+  is-path : x .solution .path ≡ map arcOf r
+  is-path = arcs-belts (x .solution .path) .1
+
+  holds-for : IsRoute p (k .s) (k .t) r × (allMet (p .rules) (passes r) (x .setting) ≡ true)
+  holds-for =
+      feasible-joint okay (k .s) (k .t) r (x .setting)
+      (subst (λ (q : List Arc). FeasibleBy (instanceOf p (k .s) (k .t)) q (joint p q (x .setting))) is-path (x .solution .feasible))
+
+  names-read : beltsOn (k .sheet) ≡ namesOf r
+  names-read = back .1 ∙ sym (x .solution .belts) ∙ ap (map (λ (a : Arc). a .number)) is-path ∙ numbers-names r
+
+  read-is : routeOn k ≡ r
+  read-is = ap (beltsNamed p) names-read ∙ names-belts okay r (route-belts p (k .s) (k .t) r (holds-for .0))
+
+  all-known : all (λ (e : ℕ). mem e (namesOf (p .belts))) (beltsOn (k .sheet)) ≡ true
+  all-known = all-is (λ (e : ℕ). mem e (namesOf (p .belts))) (beltsOn (k .sheet)) one
+    where
+      one : (e : ℕ) → List·Memᴰ e (beltsOn (k .sheet)) → mem e (namesOf (p .belts)) ≡ true
+      one e m =
+          let (f, i, q) = map-in (λ (f : Belt). f .name) r (subst (List·Memᴰ e) names-read m) in
+          let n = in-map (λ (f : Belt). f .name) (route-belts p (k .s) (k .t) r (holds-for .0) f i) in
+          ap (λ (n : ℕ). mem n (namesOf (p .belts))) q ∙ in-mem (namesOf (p .belts)) n
+
+  fine-route : broken12 k ≡ false
+  unfolding broken12
+  fine-route = ap not (ap (connects (k .s) (k .t)) read-is ∙ route-connects p (k .s) (k .t) r (holds-for .0))
+
+  fine-cost : broken13 k ≡ false
+  unfolding broken13
+  fine-cost =
+      let e : cost (routeOn k) ≡ costOn (k .sheet) =
+      ap cost read-is ∙ cost-weight r ∙ ap weightOf (sym is-path) ∙ x .solution .cost ∙ sym (back .2) in
+      ap not (eq-eqb (cost (routeOn k)) (costOn (k .sheet)) e)
+
+  fine-rules : broken14 k ≡ false
+  unfolding broken14
+  fine-rules = ap not ((λ i. allMet (p .rules) (passes (read-is i)) (back .3 i)) ∙ holds-for .1)
+
+  solved-accepted : sheetRefusal k ≡ 0
+  solved-accepted =
+      let low : settingOn (k .sheet) < 2 ^ p .modes = subst (λ (n : ℕ). n < 2 ^ p .modes) (sym (back .3)) (x .solution .setting) in
+      unrefused-zero k record {
+        query = query;
+        fine-11 = sheet-fine k record { form = back .0; known = all-known; low = lt-ltb (settingOn (k .sheet)) (2 ^ p .modes) low };
+        fine-12 = fine-route;
+        fine-13 = fine-cost;
+        fine-14 = fine-rules;
+      }
+
+pub check-claim : CheckClaim
+check-claim k plan-bytes bytes =
+    (λ e. let u = zero-unrefused k e in (u .query, accepted-solved k bytes u), λ h. solved-accepted k (h .0) (h .1))
+
+-- ---- the sheet of a permitted route
+
+module _ {b : List ℕ} (good : Accepted b) (plan-bytes : Bytes b) (s t : ℕ) (s-low : 1 ≤ s) (t-high : t ≤ planOf b .junctions)
+    (way : List Belt) (is-route : IsRoute (planOf b) s t way) (σ : ℕ) (low : σ < 2 ^ planOf b .modes) where
+  few : length way ≤ 255
+  few = omega (arith, route-length good s t way is-route, plan-sizes good .1)
+
+  cheap : cost way < 281474976710656
+  cheap = omega (arith, route-cost good plan-bytes s t way is-route, few)
+
+  small : (e : ℕ) → List·Memᴰ e (namesOf way) → e < 65536
+  small e m =
+      let (f, i, q) = map-in (λ (f : Belt). f .name) way m in
+      let is = belt-of good f (route-belts (planOf b) s t way is-route f i) .0 in
+      omega (arith, belt-low good (f .name) is .2)
+
+  tiny : σ < 65536
+  tiny = let h : 2 ^ planOf b .modes ≤ 2 ^ 10 = pow-mono (plan-sizes good .2) in omega (arith, low)
+
+  reads-written : Reads (sheetOf (namesOf way) (cost way) σ) (namesOf way) (cost way) σ
+  reads-written = record {
+    written = refl;
+    short = omega (arith, few, length-map way (λ (f : Belt). f .name));
+    indices = small;
+    cost-fits = cheap;
+    setting-fits = tiny;
+  }
+
+pub written-claim : WrittenClaim
+written-claim b good bytes s t a c d e r route σ h =
+    let k : Case = record { plan = b; s = s; t = t; sheet = sheetOf (namesOf r) (cost r) σ } in
+    let works = lowest-claim b r .0 σ .0 h in
+    solved-accepted k (ends-query k good (inside k a c d e)) record {
+      belts = namesOf r;
+      cost = cost r;
+      setting = σ;
+      reads = reads-written good bytes s t a e r route σ (works .0);
+      solution = record {
+        path = map arcOf r;
+        belts = numbers-names r;
+        cost = sym (cost-weight r);
+        setting = works .0;
+        feasible = joint-feasible good s t r σ route (works .1);
+      };
+    }

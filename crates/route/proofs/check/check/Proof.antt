@@ -1,0 +1,128 @@
+-- `check::check` meets its contract: line by line, in the order of the table. Assumes nothing.
+use mathlib.Core.Path.{_≡_, sym, _∙_, ap}
+use mathlib.Core.Bool.{true, false, not}
+use Prim.Native.Nat.{ℕ, _≤_}
+use native.Mathlib.Omega.{arith}
+use mathlib.Core.List.{List}
+use lib.ListN.{length}
+use borrow.Author.Needs.{needs}
+use borrow.Author.Tests.{not-true, not-false}
+use Rattle.plan.specs.Reading.{Accepted}
+use Rattle.route.specs.declared.sheet.Sheet.{Sheet}
+use Rattle.route.specs.Refusals.{Case, broken8}
+use Rattle.route.specs.Values.{idsOf, caseOf}
+use Rattle.route.specs.Sheets.{inForm, beltsOn}
+use Rattle.route.proofs.Named.{ids-packed}
+use Rattle.route.proofs.Readings.{form-is, belts-many}
+use Rattle.route.proofs.Checked.{refused-plan, refused-8, no-form, said-refused, outside-s, outside-t, not-outside, ends-inside}
+use Rattle.route.proofs.check.check.Statement.{statement}
+use Rattle.route.proofs.check.check.Tie as tie
+
+-- the case that is checked
+abbrev case : tie.Start → Case
+case c = caseOf (c .args .p .now) (c .args .trip) (c .args .h .now)
+
+check-requires : tie.Need-check-requires
+check-requires c κs = search needs
+
+number-requires : tie.Need-number-requires
+number-requires c κs = search needs
+
+of-plan-requires : tie.Need-of-plan-requires
+of-plan-requires c κs = search needs
+
+returns : tie.Need-returns
+returns c =
+    let number = c .before .before .number in
+    let answer = c .before .before .before .check .ensures in
+    let start = c .before .before .before .before .before .before in
+    c .of-plan .ensures ∙ answer ∙ sym (refused-plan (case start) (λ z. c .before .if1 .taken (number .ensures ∙ answer ∙ z)))
+
+outside-requires : tie.Need-outside-requires
+outside-requires c κs = search needs
+
+-- past the test of the plan: it is accepted
+accepted : (c : tie.Else1) → Accepted (case (c .before .before .before .before .before) .plan)
+accepted c = record { unrefused = sym (c .before .before .check .ensures) ∙ sym (c .before .number .ensures) ∙ c .if1 .left }
+
+returns-2 : tie.Need-returns-2
+returns-2 c =
+    let past = c .before .before in
+    let start = past .before .before .before .before .before in
+    sym (refused-8 (case start) (accepted past) (outside-s (case start) (sym (c .before .outside .ensures) ∙ c .if2 .taken)))
+
+outside-requires-2 : tie.Need-outside-requires-2
+outside-requires-2 c κs = search needs
+
+returns-3 : tie.Need-returns-3
+returns-3 c =
+    let past = c .before .before .before .before in
+    let start = past .before .before .before .before .before in
+    sym (refused-8 (case start) (accepted past) (outside-t (case start) (sym (c .before .outside2 .ensures) ∙ c .if3 .taken)))
+
+-- past the tests of s and t
+ends : (c : tie.Else3) → broken8 (case (c .before .before .before .before .before .before .before .before .before)) ≡ false
+ends c =
+    let start = c .before .before .before .before .before .before .before .before .before in
+    not-outside (case start) (sym (c .before .before .before .outside .ensures) ∙ c .before .before .if2 .left) (sym (c .before .outside2 .ensures) ∙ c .if3 .left)
+
+in-form-requires : tie.Need-in-form-requires
+in-form-requires c κs = search needs
+
+returns-4 : tie.Need-returns-4
+returns-4 c =
+    let at = c .before .before in
+    let past = at .before .before .before .before in
+    let start = past .before .before .before .before .before in
+    let this = sym (c .before .in-form .ensures) ∙ not-true (c .before .in-form .result) (c .if4 .taken) in
+    sym (no-form (case start) (accepted past) (ends at) this)
+
+-- a sheet in the form has at most 255 steps
+few-steps : (h : List ℕ) → inForm h ≡ true → length (beltsOn h) ≤ 255
+few-steps h e = omega (arith, belts-many h, form-is h e .most)
+
+-- past the test of the form
+form : (c : tie.Else4) → inForm (case (c .before .before .before .before .before .before .before .before .before .before .before) .sheet) ≡ true
+form c = sym (c .before .in-form .ensures) ∙ not-false (c .before .in-form .result) (c .if4 .left)
+
+read-requires : tie.Need-read-requires
+read-requires c κs = form c
+
+check-said-requires : tie.Need-check-said-requires
+check-said-requires c κs =
+    let at = c .before .before .before in
+    let past = at .before .before .before .before in
+    let start = past .before .before .before .before .before in
+    let within = ends-inside (case start) (ends at) in
+    let count : c .read .result .route .count ≡ length (beltsOn (start .args .h .now)) = ap (λ (v : Sheet). v .route .count) (c .read .ensures) in
+    (accepted past, within .0, within .1, omega (arith, few-steps (start .args .h .now) (form (c .before))))
+
+returns-5 : tie.Need-returns-5
+returns-5 c =
+    let at = c .before .before .before .before in
+    let past = at .before .before .before .before in
+    let start = past .before .before .before .before .before in
+    let h = start .args .h .now in
+    let formed = form (c .before .before) in
+    let read = c .before .read .ensures in
+    let ids = ap (λ (v : Sheet). idsOf (v .route)) read ∙ ids-packed (beltsOn h) (few-steps h formed) in
+    c .check-said .ensures
+    ∙ sym (said-refused (case start) (accepted past) (ends at) (c .before .read .result) formed ids (ap (λ (v : Sheet). v .cost) read) (ap (λ (v : Sheet). v .setting) read))
+
+pub check-spec : {M : Type 1} → statement M
+check-spec =
+    tie.close
+    (tie.spec
+    check-requires
+    number-requires
+    of-plan-requires
+    returns
+    outside-requires
+    returns-2
+    outside-requires-2
+    returns-3
+    in-form-requires
+    returns-4
+    read-requires
+    check-said-requires
+    returns-5)

@@ -1,0 +1,150 @@
+-- `check::check_said` meets its contract: the first of the four lines that fails gives its number. Assumes nothing.
+use mathlib.Core.Path.{_≡_, sym, _∙_, ap}
+use mathlib.Core.Bool.{Bool, true, false, not, _&&_}
+use Prim.Native.Nat.{ℕ, _^_}
+use lib.Dec.{eqb, ltb}
+use borrow.Author.Needs.{needs}
+use borrow.Author.Tests.{eq-eqb, ne-eqb, not-true, not-false}
+use Rattle.plan.specs.Lists.{all, mem}
+use Rattle.plan.specs.Plan.{planOf, namesOf}
+use Rattle.plan.proofs.Lists.{all-in}
+use Rattle.plan.proofs.Reading.{name-belt}
+use Rattle.route.specs.Routes.{connects, cost}
+use Rattle.route.specs.Permission.{passes, allMet}
+use Rattle.route.specs.Values.{idsOf, Known, routeIn}
+use Rattle.route.specs.Inner.{sheetBy}
+use Rattle.route.proofs.check.check_said.Statement.{statement}
+use Rattle.route.proofs.check.check_said.Tie as tie
+
+-- the four things that the lines ask
+abbrev belted : tie.Start → Bool
+belted c = all (λ (e : ℕ). mem e (namesOf (planOf (c .args .p .now) .belts))) (idsOf (c .args .said .route))
+
+abbrev low : tie.Start → Bool
+low c = ltb (c .args .said .setting) (2 ^ planOf (c .args .p .now) .modes)
+
+abbrev joined : tie.Start → Bool
+joined c = connects (c .args .s) (c .args .t) (routeIn (c .args .p .now) (c .args .said .route))
+
+abbrev summed : tie.Start → Bool
+summed c = eqb (cost (routeIn (c .args .p .now) (c .args .said .route))) (c .args .said .cost)
+
+abbrev ruled : tie.Start → Bool
+ruled c = allMet (planOf (c .args .p .now) .rules) (passes (routeIn (c .args .p .now) (c .args .said .route))) (c .args .said .setting)
+
+are-belts-requires : tie.Need-are-belts-requires
+are-belts-requires c κs = search needs
+
+returns : tie.Need-returns
+returns c =
+    let start = c .before .before .before .before in
+    let this = sym (c .before .are-belts .ensures) ∙ not-true (c .before .are-belts .result) (c .if1 .taken) in
+    sym (λ i. sheetBy (this i && low start) (joined start) (summed start) (ruled start))
+
+is-setting-requires : tie.Need-is-setting-requires
+is-setting-requires c κs = search needs
+
+-- past the test of the belts
+are-known : (c : tie.Else1) → belted (c .before .before .before .before) ≡ true
+are-known c = sym (c .before .are-belts .ensures) ∙ not-false (c .before .are-belts .result) (c .if1 .left)
+
+known : (c : tie.Else1) → Known (c .before .before .before .before .args .p .now) (c .before .before .before .before .args .said .route)
+known c =
+    let start = c .before .before .before .before in
+    record {
+      few = start .pre .3;
+      belts = λ e m. name-belt (start .pre .0) e (all-in (λ (e : ℕ). mem e (namesOf (planOf (start .args .p .now) .belts))) (idsOf (start .args .said .route)) (are-known c) m);
+    }
+
+returns-2 : tie.Need-returns-2
+returns-2 c =
+    let start = c .before .before .before .before .before .before in
+    let past = are-known (c .before .before) in
+    let this = sym (c .before .is-setting .ensures) ∙ not-true (c .before .is-setting .result) (c .if2 .taken) in
+    sym (λ i. sheetBy (past i && this i) (joined start) (summed start) (ruled start))
+
+-- past the test of the setting
+fits : (c : tie.Else2) → (belted (c .before .before .before .before .before .before) && low (c .before .before .before .before .before .before)) ≡ true
+fits c =
+    let past = are-known (c .before .before) in
+    let this = sym (c .before .is-setting .ensures) ∙ not-false (c .before .is-setting .result) (c .if2 .left) in
+    λ i. past i && this i
+
+connects-requires : tie.Need-connects-requires
+connects-requires c κs =
+    let start = c .before .before .before .before .before .before in
+    (start .pre .0, known (c .before .before), start .pre .1, start .pre .2)
+
+returns-3 : tie.Need-returns-3
+returns-3 c =
+    let past = fits (c .before .before) in
+    let start = c .before .before .before .before .before .before .before .before in
+    let this = sym (c .before .connects .ensures) ∙ not-true (c .before .connects .result) (c .if3 .taken) in
+    sym (λ i. sheetBy (past i) (this i) (summed start) (ruled start))
+
+-- past the test of the route
+joins : (c : tie.Else3) → joined (c .before .before .before .before .before .before .before .before) ≡ true
+joins c = sym (c .before .connects .ensures) ∙ not-false (c .before .connects .result) (c .if3 .left)
+
+cost-requires : tie.Need-cost-requires
+cost-requires c κs =
+    let start = c .before .before .before .before .before .before .before .before in
+    (start .pre .0, known (c .before .before .before .before))
+
+returns-4 : tie.Need-returns-4
+returns-4 c =
+    let at = c .before .before .before in
+    let start = at .before .before .before .before .before .before .before .before in
+    let past = fits (at .before .before) in
+    let way = joins at in
+    let sum = c .before .before .cost in
+    let this = ap (λ (n : ℕ). eqb n (start .args .said .cost)) (sym (sum .ensures .0)) ∙ ne-eqb (sum .result) (start .args .said .cost) (c .if4 .taken) in
+    sym (λ i. sheetBy (past i) (way i) (this i) (ruled start))
+
+-- past the test of the cost
+sums : (c : tie.Else4) → summed (c .before .before .before .before .before .before .before .before .before .before .before) ≡ true
+sums c =
+    let said = c .before .before .before .before .before .before .before .before .before .before .before .args .said in
+    let sum = c .before .before .cost in
+    ap (λ (n : ℕ). eqb n (said .cost)) (sym (sum .ensures .0)) ∙ eq-eqb (sum .result) (said .cost) (c .if4 .left)
+
+met-by-requires : tie.Need-met-by-requires
+met-by-requires c κs =
+    let at = c .before .before .before in
+    (at .before .before .before .before .before .before .before .before .pre .0, known (at .before .before .before .before))
+
+returns-5 : tie.Need-returns-5
+returns-5 c =
+    let sum = c .before .before in
+    let at = sum .before .before .before in
+    let past = fits (at .before .before) in
+    let way = joins at in
+    let total = sums sum in
+    let this = sym (c .before .met-by .ensures) ∙ not-true (c .before .met-by .result) (c .if5 .taken) in
+    sym (λ i. sheetBy (past i) (way i) (total i) (this i))
+
+returns-6 : tie.Need-returns-6
+returns-6 c =
+    let sum = c .before .before in
+    let at = sum .before .before .before in
+    let past = fits (at .before .before) in
+    let way = joins at in
+    let total = sums sum in
+    let this = sym (c .before .met-by .ensures) ∙ not-false (c .before .met-by .result) (c .if5 .left) in
+    sym (λ i. sheetBy (past i) (way i) (total i) (this i))
+
+pub check-said-spec : {M : Type 1} → statement M
+check-said-spec =
+    tie.close
+    (tie.spec
+    are-belts-requires
+    returns
+    is-setting-requires
+    returns-2
+    connects-requires
+    returns-3
+    cost-requires
+    returns-4
+    met-by-requires
+    returns-5
+    returns-6)

@@ -1,0 +1,93 @@
+-- `route::rules::marks` meets its contract: after k turns the first k belts are marked. Assumes nothing.
+use mathlib.Core.Path.{_≡_, sym, ap, _∙_}
+use mathlib.Core.Bool.{Bool, true}
+use Prim.Native.Nat.{ℕ, _-_, _≤_, _<_}
+use mathlib.Core.List.{List}
+use native.Mathlib.Omega.{arith}
+use borrow.Author.Needs.{needs}
+use lib.ListN.{length, getD, set, length-map}
+use Rattle.plan.specs.declared.read.BeltId.{BeltId}
+use Rattle.plan.specs.Plan.{beltId}
+use Rattle.route.specs.Values.{marksOf}
+use Rattle.route.proofs.Marks.{idsTo, marks-none, marks-more, ids-next, id-in}
+use Rattle.route.proofs.rules.marks.Statement.{statement}
+use Rattle.route.proofs.rules.marks.Tie as tie
+
+abbrev Inv-loop : tie.InvT-loop
+Inv-loop route belts on₀ k₀ on k = (length (route .belts) ≡ 255) × (k ≤ route .count) × (on ≡ marksOf (idsTo k (route .belts)))
+
+abbrev μ-loop : tie.MeasureT-loop
+μ-loop route belts on₀ k₀ on k = route .count - k
+
+-- that the array has 255 elements is told by holding it (`good`)
+loop-holds : tie.Need-loop-holds Inv-loop μ-loop
+loop-holds c =
+    let route = c .before .args .route in
+    let size = sym (length-map {B = ℕ × Unit {0}} (route .belts) (λ (e : BeltId). (e .0, tt))) ∙ c .before .good .0 .1 .1 .1 .0 .1 .0 .1 in
+    (size, omega arith, marks-none)
+
+mul-belt : tie.Need-mul-belt Inv-loop μ-loop
+mul-belt c = search needs
+
+array-copy-out-belt : tie.Need-array-copy-out-belt Inv-loop μ-loop
+array-copy-out-belt c = search needs
+
+cast-on : tie.Need-cast-on Inv-loop μ-loop
+cast-on c = search needs
+
+-- the belt's index is below 2,048
+low : (c : tie.After-struct-known2 Inv-loop μ-loop)
+    → getD (c .before .before .before .before .before .before .args .route .belts) (c .before .before .before .before .loop .k) (beltId 0) .0 < 2048
+low c =
+    let start = c .before .before .before .before .before .before in
+    let route = start .args .route in
+    let loop = c .before .before .before .before .loop in
+    let all : route .count ≤ length (route .belts) = omega (arith, start .pre .few, loop .inv .0) in
+    start .pre .low _ (id-in (route .belts) (route .count) (loop .k) (beltId 0) (c .before .before .if1 .taken) all)
+
+array-write-on : tie.Need-array-write-on Inv-loop μ-loop
+array-write-on c = low c
+
+add-k : tie.Need-add-k Inv-loop μ-loop
+add-k c = search needs
+
+loop-less : tie.Need-loop-less Inv-loop μ-loop
+loop-less c = search needs
+
+loop-again : tie.Need-loop-again Inv-loop μ-loop
+loop-again c =
+    let start = c .before .before .before .before .before .before in
+    let belts = start .args .route .belts in
+    let loop = c .before .before .before .before .loop in
+    let k = loop .k in
+    let fits : k < length belts = omega (arith, start .pre .few, loop .inv .0, c .before .before .if1 .taken) in
+    let e = getD belts k (beltId 0) .0 in (
+      loop .inv .0,
+      omega (arith, c .before .before .if1 .taken),
+      ap (λ (l : List Bool). set l e true) (loop .inv .2)
+          ∙ marks-more (idsTo k belts) e (low c)
+          ∙ ap marksOf (sym (ids-next belts k (beltId 0) fits)),
+    )
+
+returns : tie.Need-returns Inv-loop μ-loop
+returns c =
+    let loop = c .before .before .loop in
+    let route = c .before .before .before .before .args .route in
+    let e : loop .k ≡ route .count = omega (arith, loop .inv .1, c .if1 .left) in
+    loop .inv .2 ∙ ap (λ (k : ℕ). marksOf (idsTo k (route .belts))) e
+
+pub marks-spec : {M : Type 1} → statement M
+marks-spec =
+    tie.close
+    (tie.spec
+    Inv-loop
+    μ-loop
+    loop-holds
+    mul-belt
+    array-copy-out-belt
+    cast-on
+    array-write-on
+    add-k
+    loop-less
+    loop-again
+    returns)

@@ -1,0 +1,150 @@
+-- What is claimed of routes, permission and sheets, as types; proofs/Claims.antt proves them all. The contracts of the code say that its
+-- answers are what the definitions give; these say what the definitions mean. All are about ALL lists of bytes; `Accepted b` says that
+-- b is a plan, `Bytes h` that the elements of h are bytes.
+--
+-- The published definition (source document 000):
+--   OrderFreeClaim     conditioning on an assignment does not depend on its order
+--   InstanceClaim      an accepted plan is an instance of the problem
+--   MetClaim           every rule is met by a route under a setting exactly when conditioning the plan's formula by their joint
+--                      assignment leaves nothing
+--   PermittedClaim     a route from s to t is permitted exactly when its path is feasible
+--   PathsClaim         every feasible path is that of a permitted route
+--   CostClaim          the cost of a route is the weight of its path
+-- Routes:
+--   LowestClaim        `lowest` is the lowest setting that works, and there is none exactly when the route is not permitted
+--   OrderClaim         "comes before" is a strict total order on the routes from s to t
+--   NoneAboveClaim     there is no route from s to t where s > t
+--   RoutesClaim        `routes` lists exactly the routes from s to t, each once
+-- Sheets:
+--   ReadingClaim       bytes are in the form of a sheet exactly when they have a reading, which is what stands in their fields
+--   OneReadingClaim    a sheet has at most one reading
+--   RoundTripClaim     a sheet reads as what was written
+--   FirstFindingClaim  the check answers n exactly when n is the number of the first broken line, and 0 exactly when none is broken
+--   CheckClaim         DEMAND 2: the check accepts exactly when lines 1 to 8 are unbroken and the sheet reads as belts, cost and setting
+--                      that are a feasible solution (Solution) of the instance
+--   WrittenClaim       the sheet of a permitted route with its lowest setting is accepted
+--
+-- Assumes nothing.
+use mathlib.Core.Path.{_≡_}
+use mathlib.Core.Logic.{_⊎_, _↔_}
+use mathlib.Core.Bool.{true, false}
+use mathlib.Core.Option.{none, some}
+use Prim.Native.Nat.{ℕ, _^_, _≤_, _<_}
+use mathlib.Core.List.{List, [], _++_, map, List·Memᴰ}
+use Rattle.plan.specs.Plan.{Belt, planOf, namesOf}
+use Rattle.plan.specs.Claims.{Unbroken, FirstIn}
+use Rattle.plan.specs.Reading.{Accepted, Bytes}
+use Rattle.route.specs.Lcsp.{Var, Lit, Formula, IsAssignment, _∥_, Satisfies, Arc, Instance, IsInstance, weightOf, FeasibleBy, Feasible}
+use Rattle.route.specs.Routes.{IsRoute, cost, before, routes, Distinct}
+use Rattle.route.specs.Permission.{passes, allMet, Permitted, lowest}
+use Rattle.route.specs.Instances.{arcOf, instanceOf, joint}
+use Rattle.route.specs.Sheets.{sheetOf, Reads, inForm, beltsOn, costOn, settingOn}
+use Rattle.route.specs.Refusals.{Case, queryLines, checkLines, sheetRefusal}
+
+-- ---- the published definition
+
+abbrev pub OrderFreeClaim : Type 0
+OrderFreeClaim = (X : List Var) (T U : List Lit) (Φ : Formula) → IsAssignment X T
+    → ((l : Lit) → List·Memᴰ l T ↔ List·Memᴰ l U) → Φ ∥ T ≡ Φ ∥ U
+
+abbrev pub InstanceClaim : Type 0
+InstanceClaim = (b : List ℕ) → Accepted b → (s t : ℕ) → 1 ≤ s → s ≤ planOf b .junctions → 1 ≤ t → t ≤ planOf b .junctions
+    → IsInstance (instanceOf (planOf b) s t)
+
+abbrev pub MetClaim : Type 0
+MetClaim = (b : List ℕ) → Accepted b → (s t : ℕ) (r : List Belt) (σ : ℕ)
+    → (allMet (planOf b .rules) (passes r) σ ≡ true) ↔ Satisfies (joint (planOf b) (map arcOf r) σ) (instanceOf (planOf b) s t .formula)
+
+abbrev pub PermittedClaim : Type 0
+PermittedClaim = (b : List ℕ) → Accepted b → (s t : ℕ) (r : List Belt)
+    → (IsRoute (planOf b) s t r × Permitted (planOf b .rules) (planOf b .modes) r) ↔ Feasible (instanceOf (planOf b) s t) (map arcOf r)
+
+abbrev pub PathsClaim : Type 0
+PathsClaim = (b : List ℕ) → Accepted b → (s t : ℕ) (q : List Arc) → Feasible (instanceOf (planOf b) s t) q
+    → (r : List Belt) × (q ≡ map arcOf r) × IsRoute (planOf b) s t r × Permitted (planOf b .rules) (planOf b .modes) r
+
+abbrev pub CostClaim : Type 0
+CostClaim = (r : List Belt) → cost r ≡ weightOf (map arcOf r)
+
+-- ---- routes
+
+abbrev pub LowestClaim : Type 0
+LowestClaim = (b : List ℕ) (r : List Belt) →
+    ((σ : ℕ) → (lowest (planOf b .rules) (planOf b .modes) (passes r) ≡ some σ)
+    ↔ ((σ < 2 ^ planOf b .modes) × (allMet (planOf b .rules) (passes r) σ ≡ true)
+    × ((τ : ℕ) → τ < σ → allMet (planOf b .rules) (passes r) τ ≡ false)))
+    × ((lowest (planOf b .rules) (planOf b .modes) (passes r) ≡ none) ↔ (Permitted (planOf b .rules) (planOf b .modes) r → ⊥))
+
+-- irreflexive, transitive, and of two different routes one comes before the other; and no route goes on where another ends, so that
+-- two different ones have a first difference
+abbrev pub OrderClaim : Type 0
+OrderClaim = (b : List ℕ) → Accepted b → (s t : ℕ) →
+    ((x : List Belt) → before x x ≡ false)
+    × ((x y z : List Belt) → before x y ≡ true → before y z ≡ true → before x z ≡ true)
+    × ((x y : List Belt) → IsRoute (planOf b) s t x → IsRoute (planOf b) s t y → (x ≡ y → ⊥) → (before x y ≡ true) ⊎ (before y x ≡ true))
+    × ((x y : List Belt) → IsRoute (planOf b) s t x → IsRoute (planOf b) s t (x ++ y) → y ≡ [])
+
+abbrev pub NoneAboveClaim : Type 0
+NoneAboveClaim = (b : List ℕ) → Accepted b → (s t : ℕ) (r : List Belt) → IsRoute (planOf b) s t r → s ≤ t
+
+abbrev pub RoutesClaim : Type 0
+RoutesClaim = (b : List ℕ) → Accepted b → (s t : ℕ)
+    → ((r : List Belt) → List·Memᴰ r (routes (planOf b) s t) ↔ IsRoute (planOf b) s t r) × Distinct (routes (planOf b) s t)
+
+-- ---- sheets
+
+abbrev pub ReadingClaim : Type 0
+ReadingClaim = (h : List ℕ) → Bytes h → (inForm h ≡ true) ↔ Reads h (beltsOn h) (costOn h) (settingOn h)
+
+abbrev pub OneReadingClaim : Type 0
+OneReadingClaim = (h es fs : List ℕ) (c d σ τ : ℕ) → Reads h es c σ → Reads h fs d τ → (es ≡ fs) × (c ≡ d) × (σ ≡ τ)
+
+abbrev pub RoundTripClaim : Type 0
+RoundTripClaim = (h es : List ℕ) (c σ : ℕ) → Reads h es c σ → (inForm h ≡ true) × (beltsOn h ≡ es) × (costOn h ≡ c) × (settingOn h ≡ σ)
+
+abbrev pub FirstFindingClaim : Type 0
+FirstFindingClaim = (k : Case) (n : ℕ) → (sheetRefusal k ≡ n) ↔ (((n ≡ 0) × Unbroken checkLines k) ⊎ FirstIn checkLines k n)
+
+-- the belts es, the cost c and the setting σ are a feasible solution of the instance of plan b from s to t: there is a path of these
+-- arcs and this weight, and with the joint assignment of path and setting it is feasible
+pub record Solution (b : List ℕ) (s t : ℕ) (es : List ℕ) (c σ : ℕ) : Type 0 where
+  pub path : List Arc
+  pub belts : map (λ (a : Arc). a .number) path ≡ es
+  pub cost : weightOf path ≡ c
+  pub setting : σ < 2 ^ planOf b .modes
+  pub feasible : FeasibleBy (instanceOf (planOf b) s t) path (joint (planOf b) path σ)
+
+-- a reading of the sheet that is a feasible solution
+pub record ReadsSolved (k : Case) : Type 0 where
+  pub belts : List ℕ
+  pub cost : ℕ
+  pub setting : ℕ
+  pub reads : Reads (k .sheet) belts cost setting
+  pub solution : Solution (k .plan) (k .s) (k .t) belts cost setting
+
+abbrev pub CheckClaim : Type 0
+CheckClaim = (k : Case) → Bytes (k .plan) → Bytes (k .sheet) → (sheetRefusal k ≡ 0) ↔ (Unbroken queryLines k × ReadsSolved k)
+
+abbrev pub WrittenClaim : Type 0
+WrittenClaim = (b : List ℕ) → Accepted b → Bytes b → (s t : ℕ) → 1 ≤ s → s ≤ planOf b .junctions → 1 ≤ t → t ≤ planOf b .junctions
+    → (r : List Belt) → IsRoute (planOf b) s t r → (σ : ℕ) → lowest (planOf b .rules) (planOf b .modes) (passes r) ≡ some σ
+    → sheetRefusal (record { plan = b; s = s; t = t; sheet = sheetOf (namesOf r) (cost r) σ }) ≡ 0
+
+-- all of them
+pub record Claims : Type 0 where
+  pub order-free : OrderFreeClaim
+  pub is-instance : InstanceClaim
+  pub met : MetClaim
+  pub permitted : PermittedClaim
+  pub paths : PathsClaim
+  pub cost : CostClaim
+  pub lowest : LowestClaim
+  pub order : OrderClaim
+  pub none-above : NoneAboveClaim
+  pub routes : RoutesClaim
+  pub reading : ReadingClaim
+  pub one-reading : OneReadingClaim
+  pub round-trip : RoundTripClaim
+  pub first-finding : FirstFindingClaim
+  pub check : CheckClaim
+  pub written : WrittenClaim

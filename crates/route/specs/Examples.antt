@@ -1,0 +1,132 @@
+-- Worked out by computation: plan P of paper 01 and its neighbours, against the definitions of this crate. Assumes nothing.
+--
+--   sheetP            the sheet of E1: belt 5, cost 9, setting 0
+--   planE10           P with the only rule "not belt 4, or mode 1"
+--   planEmpty         P and a rule without literals
+use mathlib.Core.Path.{_≡_, refl}
+use mathlib.Core.Bool.{true, false}
+use mathlib.Core.Option.{none, some}
+use Prim.Native.Nat.{ℕ}
+use mathlib.Core.List.{List, [], _∷_, _++_, map}
+use Rattle.plan.specs.Records.{recordOf, rowOf, fits, linksAt, links}
+use Rattle.plan.specs.Plan.{planOf, named, namesOf}
+use Rattle.plan.specs.Refusals.{broken1, broken2, broken3, broken4, broken5, broken6, broken7, refusal}
+use Rattle.plan.specs.Examples.{planP}
+use Rattle.route.specs.Lcsp.{_∥_}
+use Rattle.route.specs.Routes.{before, routes, beltsNamed}
+use Rattle.route.specs.Permission.{passes, lowest}
+use Rattle.route.specs.Instances.{arcOf, instanceOf, joint}
+use Rattle.route.specs.Sheets.{sheetOf, inForm}
+use Rattle.route.specs.Refusals.{broken8, broken11, broken12, broken13, broken14, sheetRefusal}
+
+-- ---- routes of P
+
+-- from 1 to 3 by belts 4 and 6, or by belt 5; none from 3 to 1, and the empty one from 1 to 1
+routes-1-3 : map namesOf (routes (planOf planP) 1 3) ≡ (4 ∷ 6 ∷ []) ∷ (5 ∷ []) ∷ []
+unfolding planP planOf
+routes-1-3 = refl
+
+routes-3-1 : routes (planOf planP) 3 1 ≡ []
+unfolding planP planOf
+routes-3-1 = refl
+
+routes-1-1 : routes (planOf planP) 1 1 ≡ [] ∷ []
+unfolding planP planOf
+routes-1-1 = refl
+
+-- 4 6 costs 7 and 5 costs 9
+cheaper : before (beltsNamed (planOf planP) (4 ∷ 6 ∷ [])) (beltsNamed (planOf planP) (5 ∷ [])) ≡ true
+unfolding planP planOf
+cheaper = refl
+
+-- ---- permission
+
+abbrev lowestOf : List ℕ → List ℕ → mathlib.Core.Option.Option ℕ
+lowestOf b es = lowest (planOf b .rules) (planOf b .modes) (passes (beltsNamed (planOf b) es))
+
+-- the rule: not belt 4, or not belt 6
+P-5 : lowestOf planP (5 ∷ []) ≡ some 0
+unfolding planP planOf
+P-5 = refl
+
+P-4-6 : lowestOf planP (4 ∷ 6 ∷ []) ≡ none
+unfolding planP planOf
+P-4-6 = refl
+
+-- conditioning by the joint assignment of belt 5 and setting 0 leaves nothing; that of belts 4 and 6 leaves the empty clause
+P-5-leaves : instanceOf (planOf planP) 1 3 .formula ∥ joint (planOf planP) (map arcOf (beltsNamed (planOf planP) (5 ∷ []))) 0 ≡ []
+unfolding planP planOf
+P-5-leaves = refl
+
+P-4-6-leaves : instanceOf (planOf planP) 1 3 .formula ∥ joint (planOf planP) (map arcOf (beltsNamed (planOf planP) (4 ∷ 6 ∷ []))) 1 ≡ [] ∷ []
+unfolding planP planOf
+P-4-6-leaves = refl
+
+pub planE10 : List ℕ
+planE10 =
+    recordOf 7 3 1 7 10 0
+    ++ recordOf 1 4 0 0 0 0
+    ++ recordOf 1 6 0 0 0 0
+    ++ recordOf 1 0 0 0 0 0
+    ++ recordOf 2 5 2 3 0 0
+    ++ recordOf 2 0 3 9 0 0
+    ++ recordOf 2 0 3 4 0 0
+    ++ recordOf 3 0 8 0 0 0
+    ++ recordOf 4 9 0 0 4 0
+    ++ recordOf 4 0 1 1 1 0
+
+-- belt 4 needs mode 1 on
+E10-4-6 : lowestOf planE10 (4 ∷ 6 ∷ []) ≡ some 1
+unfolding planE10 planOf
+E10-4-6 = refl
+
+pub planEmpty : List ℕ
+planEmpty =
+    recordOf 7 3 1 7 11 0
+    ++ recordOf 1 4 0 0 0 0
+    ++ recordOf 1 6 0 0 0 0
+    ++ recordOf 1 0 0 0 0 0
+    ++ recordOf 2 5 2 3 0 0
+    ++ recordOf 2 0 3 9 0 0
+    ++ recordOf 2 0 3 4 0 0
+    ++ recordOf 3 10 8 0 0 0
+    ++ recordOf 4 9 0 0 4 0
+    ++ recordOf 4 0 0 0 6 0
+    ++ recordOf 3 0 0 0 0 0
+
+-- a rule without literals is never met
+empty-5 : lowestOf planEmpty (5 ∷ []) ≡ none
+unfolding planEmpty planOf
+empty-5 = refl
+
+-- ---- sheets
+
+pub sheetP : List ℕ
+sheetP = recordOf 8 1 0 0 9 0 ++ recordOf 5 0 5 0 0 0
+
+written : sheetOf (5 ∷ []) 9 0 ≡ sheetP
+unfolding sheetP
+written = refl
+
+written-empty : sheetOf [] 0 0 ≡ recordOf 8 0 0 0 0 0
+written-empty = refl
+
+-- two steps, a cost of more than 32 bits
+written-two : sheetOf (4 ∷ 6 ∷ []) 281470681808900 3 ≡ recordOf 8 1 65535 1 4 3 ++ recordOf 5 2 4 0 0 0 ++ recordOf 5 0 6 0 0 0
+written-two = refl
+
+-- the check of P, from 1 to 3: E1's sheet is accepted; belts 4 and 6 break the rule; a high field of the cost counts
+abbrev checkP : List ℕ → ℕ
+checkP h = sheetRefusal (record { plan = planP; s = 1; t = 3; sheet = h })
+
+accepted : checkP sheetP ≡ 0
+unfolding planP sheetP inForm broken1 broken2 broken3 broken4 broken5 broken6 broken7 broken8 broken11 broken12 broken13 broken14 rowOf fits linksAt links planOf named sheetRefusal
+accepted = refl
+
+unmet : checkP (sheetOf (4 ∷ 6 ∷ []) 7 0) ≡ 14
+unfolding planP sheetP inForm broken1 broken2 broken3 broken4 broken5 broken6 broken7 broken8 broken11 broken12 broken13 broken14 rowOf fits linksAt links planOf named sheetRefusal
+unmet = refl
+
+high-cost : checkP (recordOf 8 1 1 0 9 0 ++ recordOf 5 0 5 0 0 0) ≡ 13
+unfolding planP sheetP inForm broken1 broken2 broken3 broken4 broken5 broken6 broken7 broken8 broken11 broken12 broken13 broken14 rowOf fits linksAt links planOf named sheetRefusal
+high-cost = refl

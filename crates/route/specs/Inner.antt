@@ -1,0 +1,51 @@
+-- What only the contracts of private functions cite; nothing that a reader has to believe.
+--
+--   placed l i vs   l with vs from place i on
+--   Low r           a Route of at most 255 belts with names below 2,048, so that each can be looked up
+--   Nameable l      what literal l names can be looked up: a belt below 2,048, a mode from 1 to 10
+--   saidRefusal p s t v
+--                   the first broken one of lines 11 to 14, or 0, by what a sheet in the form says
+--
+-- Assumes nothing.
+use Prim.Native.Nat.{ℕ, _+_, _^_, _≤_, _<_}
+use mathlib.Core.Bool.{Bool, true, false, _&&_}
+use mathlib.Core.List.{List, _++_, List·Memᴰ}
+use lib.ListN.{length, take, drop}
+use lib.Dec.{eqb, ltb}
+use Rattle.plan.specs.Lists.{all, mem}
+use Rattle.plan.specs.Plan.{Plan, namesOf}
+use Rattle.plan.specs.declared.read.Literal.{Literal}
+use Rattle.plan.specs.declared.read.Literal.the-variants.{OfBelt, OfMode}
+use Rattle.route.specs.declared.path.Route.{Route}
+use Rattle.route.specs.declared.sheet.Sheet.{Sheet}
+use Rattle.route.specs.Routes.{connects, cost, beltsNamed}
+use Rattle.route.specs.Permission.{passes, allMet}
+use Rattle.route.specs.Values.{idsOf}
+
+abbrev pub placed : List ℕ → ℕ → List ℕ → List ℕ
+placed l i vs = take i l ++ vs ++ drop (i + length vs) l
+
+pub record Low (r : Route) : Type 0 where
+  pub few : r .count ≤ 255
+  pub low : (e : ℕ) → List·Memᴰ e (idsOf r) → e < 2048
+
+abbrev pub Nameable : Literal → Type 0
+Nameable (OfBelt e wanted) = e .0 < 2048
+Nameable (OfMode m wanted) = (1 ≤ m .0) × (m .0 ≤ 10)
+
+-- by whether the sheet is one of the plan, its belts a route, its cost the sum and every rule met
+abbrev pub sheetBy : Bool → Bool → Bool → Bool → ℕ
+sheetBy false b c d = 11
+sheetBy true false c d = 12
+sheetBy true true false d = 13
+sheetBy true true true false = 14
+sheetBy true true true true = 0
+
+abbrev pub saidRefusal : Plan → ℕ → ℕ → Sheet → ℕ
+saidRefusal p s t v =
+    let r = beltsNamed p (idsOf (v .route)) in
+    sheetBy
+    (all (λ (e : ℕ). mem e (namesOf (p .belts))) (idsOf (v .route)) && ltb (v .setting) (2 ^ p .modes))
+    (connects s t r)
+    (eqb (cost r) (v .cost))
+    (allMet (p .rules) (passes r) (v .setting))

@@ -1,0 +1,11 @@
+-- In the order in which to read them. Lcsp stands by itself: it is the published definition. `Inner` is for the contracts of private functions alone.
+pub mod Lcsp
+pub mod Routes
+pub mod Permission
+pub mod Instances
+pub mod Sheets
+pub mod Refusals
+pub mod Claims
+pub mod Values
+pub mod Inner
+pub mod Examples

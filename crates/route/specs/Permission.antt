@@ -1,0 +1,54 @@
+-- Which routes are permitted (paper 01, "Permitted routes").
+--
+--   passes r e          belt e is on route r
+--   isOn σ m            mode m is on in the setting σ, in which it counts 2^(m-1)
+--   holds on σ l        literal l holds: being on the route, or the mode being on, agrees with what is wanted.
+--                       Which belts are on the route is told by the test `on`
+--   met on σ rule       some literal of the rule holds; so a rule without literals is never met
+--   allMet rules on σ   every rule is met
+--   Permitted rules m r some setting of all the m modes meets every rule
+--   lowest rules m on   the lowest setting that works, if one does: of the settings 0, 1, .. below 2^m the first. It is the one found by
+--                       trying the highest mode off before on, and each lower mode inside it
+--   find f xs           the first of xs that passes
+--
+-- The rules to be met are an argument; those of a plan are `p .rules`. Assumes nothing.
+use mathlib.Core.Path.{_≡_}
+use Prim.Native.Nat.{ℕ, _-_, _/_, _%_, _^_, _<_}
+use mathlib.Core.Bool.{Bool, true, false, Bool·beq}
+use mathlib.Core.Option.{Option, none, some}
+use mathlib.Core.List.{List, [], _∷_}
+use lib.Dec.{eqb}
+use Rattle.plan.specs.declared.read.Literal.{Literal}
+use Rattle.plan.specs.declared.read.Literal.the-variants.{OfBelt, OfMode}
+use Rattle.plan.specs.Lists.{any, all, run}
+use Rattle.plan.specs.Plan.{Belt}
+
+abbrev pub passes : List Belt → ℕ → Bool
+passes r e = any (λ (f : Belt). eqb (f .name) e) r
+
+abbrev pub isOn : ℕ → ℕ → Bool
+isOn σ m = eqb (σ / 2 ^ (m - 1) % 2) 1
+
+abbrev pub holds : (ℕ → Bool) → ℕ → Literal → Bool
+holds on σ (OfBelt e wanted) = Bool·beq (on (e .0)) wanted
+holds on σ (OfMode m wanted) = Bool·beq (isOn σ (m .0)) wanted
+
+abbrev pub met : (ℕ → Bool) → ℕ → List Literal → Bool
+met on σ rule = any (holds on σ) rule
+
+abbrev pub allMet : List (List Literal) → (ℕ → Bool) → ℕ → Bool
+allMet rules on σ = all (met on σ) rules
+
+abbrev pub Permitted : List (List Literal) → ℕ → List Belt → Type 0
+Permitted rules m r = (σ : ℕ) × (σ < 2 ^ m) × (allMet rules (passes r) σ ≡ true)
+
+abbrev pub orElse : {A : Type 0} → Bool → A → Option A → Option A
+orElse true x o = some x
+orElse false x o = o
+
+abbrev pub find : {A : Type 0} → (A → Bool) → List A → Option A
+find f [] = none
+find f (x ∷ xs) = orElse (f x) x (find f xs)
+
+abbrev pub lowest : List (List Literal) → ℕ → (ℕ → Bool) → Option ℕ
+lowest rules m on = find (allMet rules on) (run 0 (2 ^ m))

@@ -1,0 +1,63 @@
+-- What the values that the code hands about mean. `Route`, `Sheet`, `Setting` and `Trip` are declared by the code.
+--
+--   idsOf r          the names of the belts that a Route holds: the first `count` of its array
+--   packed es        the Route that holds the belts es, the rest of its array 0
+--   Known b r        a Route of at most 255 belts, all of them belts of the plan b
+--   routeIn b r      the belts of the plan b that a Route holds
+--   marksOf es       for each belt index below 2,048 whether it is among es; marked on e: whether such an array has e
+--   sheetIn h        the Sheet that the bytes h read as
+--   bytesOf v        the bytes of a Sheet
+--   settingIn v      the lowest setting, if there is one, that an answer stands for
+--   caseOf b trip h  the case of the sheet check
+--
+-- Assumes nothing.
+use mathlib.Core.Path.{_≡_}
+use Prim.Native.Nat.{ℕ, _-_, _≤_}
+use mathlib.Core.Bool.{Bool, false}
+use mathlib.Core.Option.{Option, none, some}
+use mathlib.Core.List.{List, _++_, map, List·Memᴰ}
+use lib.ListN.{length, getD, take, replicate}
+use Rattle.plan.specs.declared.read.BeltId.{BeltId}
+use Rattle.plan.specs.Lists.{mem, upto}
+use Rattle.plan.specs.Plan.{Belt, planOf, beltId}
+use Rattle.plan.specs.Reading.{IsBelt}
+use Rattle.route.specs.declared.path.Route.{Route}
+use Rattle.route.specs.declared.sheet.Sheet.{Sheet}
+use Rattle.route.specs.declared.modes.Setting.{Setting}
+use Rattle.route.specs.declared.modes.Setting.the-variants.{Works, Nothing}
+use Rattle.route.specs.declared.check.Trip.{Trip}
+use Rattle.route.specs.Routes.{beltsNamed}
+use Rattle.route.specs.Sheets.{sheetOf, beltsOn, costOn, settingOn}
+use Rattle.route.specs.Refusals.{Case}
+
+abbrev pub idsOf : Route → List ℕ
+idsOf r = map (λ (e : BeltId). e .0) (take (r .count) (r .belts))
+
+abbrev pub packed : List ℕ → Route
+packed es = record { count = length es; belts = map beltId es ++ replicate (255 - length es) (beltId 0) }
+
+pub record Known (b : List ℕ) (r : Route) : Type 0 where
+  pub few : r .count ≤ 255
+  pub belts : (e : ℕ) → List·Memᴰ e (idsOf r) → IsBelt b e
+
+abbrev pub routeIn : List ℕ → Route → List Belt
+routeIn b r = beltsNamed (planOf b) (idsOf r)
+
+unfoldable pub marksOf : List ℕ → List Bool
+marksOf es = map (λ (e : ℕ). mem e es) (upto 0 2048)
+
+abbrev pub marked : List Bool → ℕ → Bool
+marked on e = getD on e false
+
+abbrev pub sheetIn : List ℕ → Sheet
+sheetIn h = record { route = packed (beltsOn h); cost = costOn h; setting = settingOn h }
+
+abbrev pub bytesOf : Sheet → List ℕ
+bytesOf v = sheetOf (idsOf (v .route)) (v .cost) (v .setting)
+
+abbrev pub settingIn : Setting → Option ℕ
+settingIn (Works σ) = some σ
+settingIn Nothing = none
+
+abbrev pub caseOf : List ℕ → Trip → List ℕ → Case
+caseOf b trip h = record { plan = b; s = trip .s; t = trip .t; sheet = h }

@@ -1,0 +1,12 @@
+// Routes of an accepted plan: which are permitted, and the sheets that record them.
+//
+//   path    a route's belts: whether they connect, and what they cost
+//   rules   whether every rule is met by a route under a setting of the modes
+//   modes   the lowest setting that meets every rule
+//   sheet   route sheets, written and read
+//   check   the check of a sheet: lines 1 to 8 and 11 to 14 of the refusal table
+pub mod check;
+pub mod modes;
+pub mod path;
+pub mod rules;
+pub mod sheet;

@@ -1,0 +1,68 @@
+// A route's belts: whether they are the plan's, whether they connect, and what they cost.
+use plan::read;
+use plan::read::BeltId;
+ghost use mathlib.Core.Path.{_≡_};
+ghost use Prim.Native.Nat.{ℕ, _≤_, _<_};
+ghost use Rattle.plan.specs.Lists.{all, mem};
+ghost use Rattle.plan.specs.Plan.{planOf, namesOf};
+ghost use Rattle.plan.specs.Reading.{Accepted};
+ghost use Rattle.route.specs.Routes.{connects, cost};
+ghost use Rattle.route.specs.Values.{idsOf, Known, routeIn};
+
+// A route: its belts in order are the first `count` of the array.
+pub struct Route {
+    pub count: usize,
+    pub belts: [BeltId; 255],
+}
+
+// Whether every belt of the route is a belt of the plan.
+pub fn are_belts(p: &[u8], route: Route) -> bool
+    requires { ⌜ Accepted (now p) × (route .count ≤ 255) ⌝ }
+    ensures { λ v. ⌜ v ≡ all (λ (e : ℕ). mem e (namesOf (planOf (now (p .entry)) .belts))) (idsOf route) ⌝ }
+{
+    let belts = route.belts;
+    let mut k = 0;
+    while k < route.count {
+        let belt = belts[k];
+        if !read::is_belt(p, belt) {
+            return false;
+        }
+        k += 1;
+    }
+    true
+}
+
+// Whether the belts lead from s to t, each leaving where the last arrived.
+pub fn connects(p: &[u8], route: Route, s: usize, t: usize) -> bool
+    requires { ⌜ Accepted (now p) × Known (now p) route × (1 ≤ s) × (s ≤ planOf (now p) .junctions) ⌝ }
+    ensures { λ v. ⌜ v ≡ connects s t (routeIn (now (p .entry)) route) ⌝ }
+{
+    let belts = route.belts;
+    let mut at = s;
+    let mut k = 0;
+    while k < route.count {
+        let belt = belts[k];
+        if !read::leaves(p, belt, at) {
+            return false;
+        }
+        at = read::leads_to(p, belt);
+        k += 1;
+    }
+    at == t
+}
+
+// The cost of the route, the sum of its belts' costs.
+pub fn cost(p: &[u8], route: Route) -> u64
+    requires { ⌜ Accepted (now p) × Known (now p) route ⌝ }
+    ensures { λ v. ⌜ (v ≡ cost (routeIn (now (p .entry)) route)) × (v < 281474976710656) ⌝ }
+{
+    let belts = route.belts;
+    let mut sum = 0;
+    let mut k = 0;
+    while k < route.count {
+        let belt = belts[k];
+        sum += read::cost(p, belt);
+        k += 1;
+    }
+    sum
+}

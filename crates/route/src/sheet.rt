@@ -1,0 +1,203 @@
+// Route sheets: records in the form of a plan's. Record 0 holds the cost and the setting, each further one a belt of the route.
+use crate::path::Route;
+use plan::read::BeltId;
+use plan::record;
+ghost use mathlib.Core.Path.{_≡_};
+ghost use mathlib.Core.Bool.{true};
+ghost use mathlib.Core.List.{_++_};
+ghost use Prim.Native.Nat.{_+_, _*_, _≤_, _<_};
+ghost use lib.ListN.{length, drop};
+ghost use Rattle.plan.specs.Records.{fieldBytes, recordOf};
+ghost use Rattle.route.specs.Sheets.{nextOf, headOf, stepsFrom, steps, headFits, stepFits, inForm, beltsOn, costOn};
+ghost use Rattle.route.specs.Values.{idsOf, packed, sheetIn, bytesOf};
+ghost use Rattle.route.specs.Inner.{placed};
+
+// The kinds of records, field 0.
+pub const SHEET: u16 = 8;
+
+pub const STEP: u16 = 5;
+
+// What a sheet says.
+pub struct Sheet {
+    pub route: Route,
+    pub cost: u64,
+    pub setting: u16,
+}
+
+// The index behind record i of a sheet with so many steps; 0 behind the last.
+fn next_of(count: usize, i: usize) -> u16
+    requires { ⌜ count ≤ 255 ⌝ }
+    ensures { λ v. ⌜ v ≡ nextOf count i ⌝ }
+{
+    if i < count {
+        return (i + 1) as u16;
+    }
+    0
+}
+
+// Whether record 0 is in the form of a sheet.
+fn head_fits(h: &[u8], count: usize) -> bool
+    requires { ⌜ (count ≡ steps (now h)) × (count ≤ 255) × (12 ≤ length (now h)) ⌝ }
+    ensures { λ v. ⌜ v ≡ headFits (now (h .entry)) ⌝ }
+{
+    record::field(h, 0, 0) == SHEET && record::field(h, 0, 1) == next_of(count, 0)
+}
+
+// Whether record i is in the form of a step.
+fn step_fits(h: &[u8], count: usize, i: usize) -> bool
+    requires { ⌜ (count ≡ steps (now h)) × (count ≤ 255) × (12 * i + 12 ≤ length (now h)) ⌝ }
+    ensures { λ v. ⌜ v ≡ stepFits (now (h .entry)) i ⌝ }
+{
+    if record::field(h, i, 0) != STEP {
+        return false;
+    }
+    if record::field(h, i, 1) != next_of(count, i) {
+        return false;
+    }
+    if record::field(h, i, 3) != 0 {
+        return false;
+    }
+    if record::field(h, i, 4) != 0 {
+        return false;
+    }
+    record::field(h, i, 5) == 0
+}
+
+// Whether the bytes are in the form of a sheet, whatever belts, cost and setting they hold.
+pub fn in_form(h: &[u8]) -> bool
+    ensures { λ v. ⌜ v ≡ inForm (now (h .entry)) ⌝ }
+{
+    let n = h.len();
+    if n < 12 {
+        return false;
+    }
+    if 3072 < n {
+        return false;
+    }
+    if n % 12 != 0 {
+        return false;
+    }
+    let count = n / 12 - 1;
+    if !head_fits(h, count) {
+        return false;
+    }
+    let mut i = 1;
+    while i <= count {
+        if !step_fits(h, count, i) {
+            return false;
+        }
+        i += 1;
+    }
+    true
+}
+
+// The belts of the steps.
+fn read_route(h: &[u8]) -> Route
+    requires { ⌜ inForm (now h) ≡ true ⌝ }
+    ensures { λ v. ⌜ v ≡ packed (beltsOn (now (h .entry))) ⌝ }
+{
+    let count = h.len() / 12 - 1;
+    let mut belts = [BeltId(0); 255];
+    let mut k = 0;
+    while k < count {
+        belts[k] = BeltId(record::field(h, k + 1, 2));
+        k += 1;
+    }
+    Route {
+        count: count,
+        belts: belts,
+    }
+}
+
+// A function of its own, so that the bound is known where the fields are put together.
+fn wide(x: u16) -> u64
+    ensures { λ v. ⌜ (v ≡ x) × (v < 65536) ⌝ }
+{
+    x as u64
+}
+
+// The cost, 48 bits in fields 2 to 4, high first.
+fn read_cost(h: &[u8]) -> u64
+    requires { ⌜ 12 ≤ length (now h) ⌝ }
+    ensures { λ v. ⌜ v ≡ costOn (now (h .entry)) ⌝ }
+{
+    let high = wide(record::field(h, 0, 2));
+    let middle = wide(record::field(h, 0, 3));
+    let low = wide(record::field(h, 0, 4));
+    high * 4294967296 + middle * 65536 + low
+}
+
+// What a sheet in the form says.
+pub fn read(h: &[u8]) -> Sheet
+    requires { ⌜ inForm (now h) ≡ true ⌝ }
+    ensures { λ v. ⌜ v ≡ sheetIn (now (h .entry)) ⌝ }
+{
+    let route = read_route(h);
+    let cost = read_cost(h);
+    let setting = record::field(h, 0, 5);
+    Sheet {
+        route: route,
+        cost: cost,
+        setting: setting,
+    }
+}
+
+// One field, high byte first.
+fn put_field(out: &mut [u8], at: usize, f: u16)
+    requires { ⌜ at + 2 ≤ length (now out) ⌝ }
+    ensures { λ _. ⌜ now (out .exit) ≡ placed (now (out .entry)) at (fieldBytes f) ⌝ }
+{
+    out[at] = (f / 256) as u8;
+    out[at + 1] = (f % 256) as u8;
+}
+
+// The six fields of record i.
+fn put_record(out: &mut [u8], i: usize, f0: u16, f1: u16, f2: u16, f3: u16, f4: u16, f5: u16)
+    requires { ⌜ 12 * i + 12 ≤ length (now out) ⌝ }
+    ensures { λ _. ⌜ now (out .exit) ≡ placed (now (out .entry)) (12 * i) (recordOf f0 f1 f2 f3 f4 f5) ⌝ }
+{
+    let at = 12 * i;
+    put_field(out, at, f0);
+    put_field(out, at + 2, f1);
+    put_field(out, at + 4, f2);
+    put_field(out, at + 6, f3);
+    put_field(out, at + 8, f4);
+    put_field(out, at + 10, f5);
+}
+
+// Record 0 of a sheet with so many steps.
+fn put_head(out: &mut [u8], count: usize, cost: u64, setting: u16)
+    requires { ⌜ (count ≤ 255) × (cost < 281474976710656) × (12 ≤ length (now out)) ⌝ }
+    ensures { λ _. ⌜ now (out .exit) ≡ placed (now (out .entry)) 0 (headOf count cost setting) ⌝ }
+{
+    let high = (cost / 4294967296) as u16;
+    let middle = (cost / 65536 % 65536) as u16;
+    let low = (cost % 65536) as u16;
+    put_record(out, 0, SHEET, next_of(count, 0), high, middle, low, setting);
+}
+
+// A step for each belt of the route, from record 1 on.
+fn put_steps(out: &mut [u8], route: Route)
+    requires { ⌜ (route .count ≤ 255) × (12 * route .count + 12 ≤ length (now out)) ⌝ }
+    ensures { λ _. ⌜ now (out .exit) ≡ placed (now (out .entry)) 12 (stepsFrom (route .count) 1 (idsOf route)) ⌝ }
+{
+    let belts = route.belts;
+    let count = route.count;
+    let mut k = 0;
+    while k < count {
+        let belt = belts[k];
+        put_record(out, k + 1, STEP, next_of(count, k + 1), belt.0, 0, 0, 0);
+        k += 1;
+    }
+}
+
+// Writes the sheet to the start of the buffer, and answers its length. Bytes behind it do not change.
+pub fn write(out: &mut [u8], sheet: Sheet) -> usize
+    requires { ⌜ (sheet .route .count ≤ 255) × (sheet .cost < 281474976710656) × (12 * sheet .route .count + 12 ≤ length (now out)) ⌝ }
+    ensures { λ v. ⌜ (v ≡ length (bytesOf sheet)) × (now (out .exit) ≡ bytesOf sheet ++ drop v (now (out .entry))) ⌝ }
+{
+    let route = sheet.route;
+    put_head(out, route.count, sheet.cost, sheet.setting);
+    put_steps(out, route);
+    12 * route.count + 12
+}
