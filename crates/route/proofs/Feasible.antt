@@ -31,7 +31,7 @@ use Rattle.plan.specs.Plan.{Belt, Plan, planOf, beltAt}
 use Rattle.plan.specs.Reading.{Accepted}
 use Rattle.plan.proofs.Lists.{test, and-is, all-in, in-any, any-some, in-map, map-in, in-upto, upto-in}
 use Rattle.plan.proofs.Reading.{belt-in, literal-belt, literal-mode}
-use Rattle.route.specs.Lcsp.{Var, graph, free, Lit, ¬ₗ, sameLit, Clause, Formula, Consistent, IsAssignment, AssignedTrue, AssignedFalse, IsComplete, Satisfies, Arc, arcVar, variables, IsPath, onPath, induced, Agree, FeasibleBy, Feasible}
+use Rattle.route.specs.Lcsp.{Var, graph, free, Lit, ¬ₗ, sameLit, Clause, Formula, Consistent, IsAssignment, AssignedTrue, AssignedFalse, IsComplete, Satisfies, Arc, arcVar, variables, onPath, induced, Agree, FeasibleBy, Feasible}
 use Rattle.route.specs.Routes.{IsRoute}
 use Rattle.route.specs.Permission.{passes, isOn, holds, met, allMet, Permitted}
 use Rattle.route.specs.Instances.{arcOf, litOf, modesOf, instanceOf, settled, joint}

@@ -9,8 +9,7 @@
 -- Assumes nothing.
 use mathlib.Core.Path.{_≡_, refl, sym, _∙_, ap, subst}
 use mathlib.Core.Bool.{Bool, true, false, not, _&&_}
-use mathlib.Core.Option.{some}
-use Prim.Native.Nat.{ℕ, _+_, _*_, _^_, _≤_, _<_}
+use Prim.Native.Nat.{ℕ, _^_, _≤_, _<_}
 use mathlib.Core.List.{List, [], _∷_, map, List·Memᴰ}
 use native.Mathlib.Omega.{arith}
 use lib.ListN.{length, length-map}
@@ -25,11 +24,11 @@ use Rattle.plan.proofs.Lists.{and-is, both, all-in, all-is, in-map, map-in, in-
 use Rattle.plan.proofs.Reading.{plan-sizes, belt-of, belt-low, name-belt}
 use Rattle.route.specs.Lcsp.{Arc, weightOf, FeasibleBy}
 use Rattle.route.specs.Routes.{IsRoute, connects, cost, beltsNamed}
-use Rattle.route.specs.Permission.{passes, allMet, lowest}
+use Rattle.route.specs.Permission.{passes, allMet}
 use Rattle.route.specs.Instances.{arcOf, instanceOf, joint}
 use Rattle.route.specs.Sheets.{sheetOf, Reads, inForm, beltsOn, costOn, settingOn}
 use Rattle.route.specs.Refusals.{Case, broken11, broken12, broken13, broken14, routeOn, queryLines, sheetRefusal}
-use Rattle.route.specs.Claims.{Solution, ReadsSolved, CheckClaim, WrittenClaim}
+use Rattle.route.specs.Claims.{ReadsSolved, CheckClaim, WrittenClaim}
 use Rattle.route.proofs.Plans.{arcs-belts, cost-weight}
 use Rattle.route.proofs.Feasible.{joint-feasible, feasible-joint}
 use Rattle.route.proofs.Named.{named-map, names-belts, connects-route, route-connects, route-belts, route-length, route-cost}

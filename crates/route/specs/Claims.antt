@@ -34,7 +34,7 @@ use mathlib.Core.List.{List, [], _++_, map, List·Memᴰ}
 use Rattle.plan.specs.Plan.{Belt, planOf, namesOf}
 use Rattle.plan.specs.Claims.{Unbroken, FirstIn}
 use Rattle.plan.specs.Reading.{Accepted, Bytes}
-use Rattle.route.specs.Lcsp.{Var, Lit, Formula, IsAssignment, _∥_, Satisfies, Arc, Instance, IsInstance, weightOf, FeasibleBy, Feasible}
+use Rattle.route.specs.Lcsp.{Var, Lit, Formula, IsAssignment, _∥_, Satisfies, Arc, IsInstance, weightOf, FeasibleBy, Feasible}
 use Rattle.route.specs.Routes.{IsRoute, cost, before, routes, Distinct}
 use Rattle.route.specs.Permission.{passes, allMet, Permitted, lowest}
 use Rattle.route.specs.Instances.{arcOf, instanceOf, joint}

@@ -4,13 +4,13 @@
 --   planE10           P with the only rule "not belt 4, or mode 1"
 --   planEmpty         P and a rule without literals
 use mathlib.Core.Path.{_≡_, refl}
-use mathlib.Core.Bool.{true, false}
+use mathlib.Core.Bool.{true}
 use mathlib.Core.Option.{none, some}
 use Prim.Native.Nat.{ℕ}
 use mathlib.Core.List.{List, [], _∷_, _++_, map}
 use Rattle.plan.specs.Records.{recordOf, rowOf, fits, linksAt, links}
 use Rattle.plan.specs.Plan.{planOf, named, namesOf}
-use Rattle.plan.specs.Refusals.{broken1, broken2, broken3, broken4, broken5, broken6, broken7, refusal}
+use Rattle.plan.specs.Refusals.{broken1, broken2, broken3, broken4, broken5, broken6, broken7}
 use Rattle.plan.specs.Examples.{planP}
 use Rattle.route.specs.Lcsp.{_∥_}
 use Rattle.route.specs.Routes.{before, routes, beltsNamed}
