@@ -8,26 +8,19 @@
 use mathlib.Core.Path.{_≡_, refl}
 use mathlib.Core.Bool.{true, false}
 use Prim.Native.Nat.{ℕ, _+_, _*_, _≤_, _<_}
-use mathlib.Core.List.{List, List·Memᴰ, List·Memᴰ·head, List·Memᴰ·tail}
+use mathlib.Core.List.{List, List·Memᴰ·head, List·Memᴰ·tail}
 use lib.ListN.{length}
 use Rattle.plan.specs.Records.{junctions, records}
-use Rattle.plan.specs.Refusals.{broken1, broken2, broken3, broken4, broken5, broken6, broken7, Line, planLines, firstBroken, refusal}
+use Rattle.plan.specs.Refusals.{broken1, broken2, broken3, broken4, broken5, broken6, broken7, planLines, firstBroken, refusal}
 use Rattle.plan.specs.Inner.{Passed2, Passed4, Passed6}
 use Rattle.plan.specs.Claims.{Unbroken}
 use Rattle.plan.specs.Reading.{Accepted}
 use Rattle.plan.proofs.First.{passed}
-use Rattle.plan.proofs.Lists.{all-in}
 use Rattle.plan.proofs.Forms.{there, header}
-use borrow.Author.Tests.{leb-true}
-use lib.Dec.{leb}
-
--- no line has the number 0
-from-1 : (l : Line (List ℕ)) → List·Memᴰ l planLines → 1 ≤ l .number
-from-1 l m = leb-true 1 (l .number) (all-in (λ (k : Line (List ℕ)). leb 1 (k .number)) planLines refl m)
 
 pub unbroken : (b : List ℕ) → refusal b ≡ 0 → Unbroken planLines b
 unfolding refusal
-unbroken b e = passed planLines b from-1 e
+unbroken b e = passed planLines b refl e
 
 pub accepted-passed : (b : List ℕ) → refusal b ≡ 0 → Passed6 b × (broken7 b ≡ false)
 accepted-passed b e =

@@ -1,21 +1,27 @@
 -- The first broken line of a list of lines, about things of any type.
 --
 --   on-broken, on-unbroken
---                 one more line in front, broken or not
---   first-is      what firstBroken answers: 0 and no line is broken, or the number of the first broken one
---   is-first      and it answers that number only
---   none-broken   it answers 0 where no line is broken
---   passed        where it answers 0, and no line has that number, every line is unbroken
+--                   one more line in front, broken or not
+--   first-is        what firstBroken answers: 0 and no line is broken, or the number of the first broken one
+--   past            lines that are unbroken are passed over
+--   is-first        and it answers that number only
+--   none-broken     it answers 0 where no line is broken
+--   first-exactly   all this in one: it answers so, and nothing else
+--   passed          where it answers 0, and no line has that number, every line is unbroken
 --
 -- Assumes nothing.
-use mathlib.Core.Path.{_≡_, refl, sym, _∙_, ap}
-use mathlib.Core.Logic.{_⊎_, inl, inr}
+use mathlib.Core.Path.{_≡_, refl, sym, _∙_, ap, subst}
+use mathlib.Core.Logic.{_⊎_, inl, inr, _↔_}
 use mathlib.Core.Bool.{Bool, true, false}
-use Prim.Native.Nat.{ℕ, _≤_}
+use Prim.Native.Nat.{ℕ}
 use mathlib.Core.List.{List, [], _∷_, _++_, List·Memᴰ, List·Memᴰ·head, List·Memᴰ·tail, List·Memᴰ·not-nil, List·Memᴰ·cases-cons}
 use native.Mathlib.Omega.{arith}
+use lib.Dec.{leb}
+use borrow.Author.Tests.{leb-true}
+use Rattle.plan.specs.Lists.{all}
 use Rattle.plan.specs.Refusals.{Line, firstBroken}
 use Rattle.plan.specs.Claims.{Unbroken, FirstIn}
+use Rattle.plan.proofs.Lists.{both}
 
 module _ {A : Type 0} where
   -- one more line in front, broken or not
@@ -65,7 +71,7 @@ module _ {A : Type 0} where
       go false e (inr k) = inr (later e k)
 
   -- lines that are unbroken are passed over
-  past : (before : List (Line A)) (ls : List (Line A)) (b : A) → Unbroken before b → firstBroken (before ++ ls) b ≡ firstBroken ls b
+  pub past : (before : List (Line A)) (ls : List (Line A)) (b : A) → Unbroken before b → firstBroken (before ++ ls) b ≡ firstBroken ls b
   past [] ls b h = refl
   past (l ∷ before) ls b h = on-unbroken l (before ++ ls) b (h l (List·Memᴰ·head refl)) ∙ past before ls b (λ k m. h k (List·Memᴰ·tail m))
 
@@ -80,10 +86,22 @@ module _ {A : Type 0} where
   none-broken [] b h = refl
   none-broken (l ∷ ls) b h = on-unbroken l ls b (h l (List·Memᴰ·head refl)) ∙ none-broken ls b (λ k m. h k (List·Memᴰ·tail m))
 
-  pub passed : (ls : List (Line A)) (b : A) → ((l : Line A) → List·Memᴰ l ls → 1 ≤ l .number) → firstBroken ls b ≡ 0 → Unbroken ls b
-  passed [] b p e = λ l m. absurd (List·Memᴰ·not-nil m)
-  passed (l ∷ ls) b p e = go (l .broken b) refl (passed ls b (λ k m. p k (List·Memᴰ·tail m)))
+  pub first-exactly : (ls : List (Line A)) (b : A) (n : ℕ) → (firstBroken ls b ≡ n) ↔ (((n ≡ 0) × Unbroken ls b) ⊎ FirstIn ls b n)
+  first-exactly ls b n = (λ e. subst Out e (first-is ls b), back)
     where
-      go : (t : Bool) → l .broken b ≡ t → (firstBroken ls b ≡ 0 → Unbroken ls b) → Unbroken (l ∷ ls) b
-      go true q below = let z : l .number ≡ 0 = sym (on-broken l ls b q) ∙ e in absurd (omega (arith, p l (List·Memᴰ·head refl)))
-      go false q below = more l ls b q (below (sym (on-unbroken l ls b q) ∙ e))
+      Out : ℕ → Type 0
+      Out m = ((m ≡ 0) × Unbroken ls b) ⊎ FirstIn ls b m
+
+      back : ((n ≡ 0) × Unbroken ls b) ⊎ FirstIn ls b n → firstBroken ls b ≡ n
+      back (inl h) = none-broken ls b (h .1) ∙ sym (h .0)
+      back (inr f) = is-first ls b n f
+
+  pub passed : (ls : List (Line A)) (b : A) → all (λ (l : Line A). leb 1 (l .number)) ls ≡ true → firstBroken ls b ≡ 0 → Unbroken ls b
+  passed [] b p e = λ l m. absurd (List·Memᴰ·not-nil m)
+  passed (l ∷ ls) b p e =
+      let (from-1, below) = both (leb 1 (l .number)) (all (λ (l : Line A). leb 1 (l .number)) ls) p in
+      go from-1 (l .broken b) refl (passed ls b below)
+    where
+      go : leb 1 (l .number) ≡ true → (t : Bool) → l .broken b ≡ t → (firstBroken ls b ≡ 0 → Unbroken ls b) → Unbroken (l ∷ ls) b
+      go from-1 true q below = let z : l .number ≡ 0 = sym (on-broken l ls b q) ∙ e in absurd (omega (arith, leb-true 1 (l .number) from-1))
+      go from-1 false q below = more l ls b q (below (sym (on-unbroken l ls b q) ∙ e))

@@ -14,8 +14,8 @@ use Prim.Native.Nat.{ℕ, _+_, _*_, _≤_, _<_}
 use mathlib.Core.List.{List, [], _∷_}
 use native.Mathlib.Omega.{arith}
 use lib.ListN.{length}
-use lib.Dec.{eqb, leb, ltb}
-use borrow.Author.Tests.{eqb-true, eq-eqb, ltb-true, lt-ltb, leb-true, le-leb, lt-leb, not-false}
+use lib.Dec.{eqb, ltb}
+use borrow.Author.Tests.{eqb-true, eq-eqb, ltb-true, lt-ltb, le-leb, lt-leb, not-false}
 use Rattle.plan.specs.declared.table.Use.{Use}
 use Rattle.plan.specs.declared.table.Use.the-variants.{Any, Unused, Between, Chain}
 use Rattle.plan.specs.declared.table.Row.{Row}
@@ -23,15 +23,9 @@ use Rattle.plan.specs.Lists.{within, mem}
 use Rattle.plan.specs.Records.{field, kind, junctions, records, rowOf, rowAt, useAt, allows, fits}
 use Rattle.plan.specs.Refusals.{broken1, broken2, kindsBy, rightKind}
 use Rattle.plan.specs.Limits.{Header}
-use Rattle.plan.proofs.Lists.{both, and-is}
+use Rattle.plan.proofs.Lists.{both, and-is, within-is, is-within}
 
 -- ---- one field
-
-pub within-is : (a n z : ℕ) → within a n z ≡ true → (a ≤ n) × (n ≤ z)
-within-is a n z h = let k = both (leb a n) (leb n z) h in (leb-true a n (k .0), leb-true n z (k .1))
-
-pub is-within : (a n z : ℕ) → a ≤ n → n ≤ z → within a n z ≡ true
-is-within a n z l u = and-is (leb a n) (leb n z) (le-leb a n l) (le-leb n z u)
 
 abbrev pub Allowed : Use → ℕ → Type 0
 Allowed Any v = Unit {0}

@@ -1,17 +1,19 @@
--- Laws of the lists and tests of specs/Lists.antt, grouped by what they are about:
--- Booleans, `any` and `all`, `keep`, `map`, `joined`, `upto`, `mem`, `count`, loops that count up. Rising lists are in Rising.antt.
+-- Laws of the lists and tests of specs/Lists.antt, grouped by what they are about: Booleans, tests of numbers, `any` and `all`, `keep`,
+-- `map` and `joined`, `run` and `upto`, `mem`, `count`, loops that count up. Rising lists are in Rising.antt.
 -- Assumes nothing.
 use mathlib.Core.Path.{_≡_, refl, sym, _∙_, ap, subst}
 use mathlib.Core.Logic.{_⊎_, inl, inr}
-use mathlib.Core.Bool.{Bool, true, false, not, _&&_, _||_, true≢false}
+use mathlib.Core.Bool.{Bool, true, false, not, _&&_, _||_, Bool·beq, true≢false}
 use Prim.Native.Nat.{ℕ, zero, suc, _+_, _-_, _≤_, _<_}
 use mathlib.Core.List.{List, [], _∷_, _++_, map, List·Memᴰ, List·Memᴰ·head, List·Memᴰ·tail, List·Memᴰ·not-nil, List·Memᴰ·cases-cons, List·Memᴰ·append-cases, Memᴰ·append-left, Memᴰ·append-right, Memᴰ·cast}
 use native.Mathlib.Omega.{arith}
 use native.Mathlib.Nat.{eq-or-lt-of-le}
 use native.Mathlib.Numerals.{add-one}
+use lib.ListN.{length, getD, length-map}
+use lib.Seq.{ext-getD}
 use lib.Dec.{eqb, leb, ltb}
-use borrow.Author.Tests.{eqb-true, eq-eqb, ltb-true, ltb-false, le-leb, lt-leb}
-use Rattle.plan.specs.Lists.{any, all, kept, keep, counted, count, mem, joined, run, upto}
+use borrow.Author.Tests.{eqb-true, eqb-false, eq-eqb, ne-eqb, ltb-true, ltb-false, leb-true, le-leb, lt-leb}
+use Rattle.plan.specs.Lists.{any, all, kept, keep, counted, count, mem, joined, run, upto, within}
 
 -- ---- Booleans
 
@@ -40,12 +42,39 @@ either false b h = inr h
 pub never : {b : Bool} → b ≡ true → b ≡ false → ⊥
 never p q = true≢false (sym p ∙ q)
 
+-- the equality test of Booleans
+pub beq-true : (a b : Bool) → Bool·beq a b ≡ true → a ≡ b
+beq-true true true h = refl
+beq-true true false h = absurd (true≢false (sym h))
+beq-true false true h = absurd (true≢false (sym h))
+beq-true false false h = refl
+
+pub beq-refl : (a : Bool) → Bool·beq a a ≡ true
+beq-refl true = refl
+beq-refl false = refl
+
+-- ---- tests of numbers
+
+-- the test for equality, either way round
+pub eqb-sym : (a b : ℕ) → eqb a b ≡ eqb b a
+eqb-sym a b = go (test (eqb a b))
+  where
+    go : (eqb a b ≡ true) ⊎ (eqb a b ≡ false) → eqb a b ≡ eqb b a
+    go (inl t) = t ∙ sym (eq-eqb b a (sym (eqb-true a b t)))
+    go (inr t) = t ∙ sym (ne-eqb b a (λ e. eqb-false a b t (sym e)))
+
 pub leb-not : (a b : ℕ) → leb a b ≡ not (ltb b a)
 leb-not a b = go (test (ltb b a))
   where
     go : (ltb b a ≡ true) ⊎ (ltb b a ≡ false) → leb a b ≡ not (ltb b a)
     go (inl t) = lt-leb a b (ltb-true b a t) ∙ sym (ap not t)
     go (inr t) = le-leb a b (ltb-false b a t) ∙ sym (ap not t)
+
+pub within-is : (a n z : ℕ) → within a n z ≡ true → (a ≤ n) × (n ≤ z)
+within-is a n z h = let k = both (leb a n) (leb n z) h in (leb-true a n (k .0), leb-true n z (k .1))
+
+pub is-within : (a n z : ℕ) → a ≤ n → n ≤ z → within a n z ≡ true
+is-within a n z l u = and-is (leb a n) (leb n z) (le-leb a n l) (le-leb n z u)
 
 -- ---- any and all
 
@@ -106,6 +135,10 @@ pub any-cong : {A : Type 0} (f g : A → Bool) (xs : List A) → ((a : A) → Li
 any-cong f g [] h = refl
 any-cong f g (x ∷ xs) h = λ i. h x (List·Memᴰ·head refl) i || any-cong f g xs (λ a m. h a (List·Memᴰ·tail m)) i
 
+pub all-cong : {A : Type 0} (f g : A → Bool) (xs : List A) → ((a : A) → List·Memᴰ a xs → f a ≡ g a) → all f xs ≡ all g xs
+all-cong f g [] h = refl
+all-cong f g (x ∷ xs) h = λ i. h x (List·Memᴰ·head refl) i && all-cong f g xs (λ a m. h a (List·Memᴰ·tail m)) i
+
 -- ---- keep
 
 pub in-keep : {A : Type 0} (f : A → Bool) {a : A} (xs : List A) → List·Memᴰ a xs → f a ≡ true → List·Memᴰ a (keep f xs)
@@ -133,6 +166,11 @@ keep-in f {a} (x ∷ xs) m = go (f x) refl m (keep-in f xs)
     go true e k below = first e (List·Memᴰ·cases-cons k) below
     go false e k below = later (below k)
 
+-- nothing is kept of a list of which nothing passes
+pub keep-none : {A : Type 0} (f : A → Bool) (xs : List A) → ((a : A) → List·Memᴰ a xs → f a ≡ false) → keep f xs ≡ []
+keep-none f [] h = refl
+keep-none f (x ∷ xs) h = ap (λ (t : Bool). kept t x (keep f xs)) (h x (List·Memᴰ·head refl)) ∙ keep-none f xs (λ a m. h a (List·Memᴰ·tail m))
+
 -- ---- map and joined
 
 pub in-map : {A B : Type 0} (f : A → B) {a : A} {xs : List A} → List·Memᴰ a xs → List·Memᴰ (f a) (map f xs)
@@ -159,7 +197,35 @@ joined-in {A} f {b} (x ∷ xs) m = go (List·Memᴰ·append-cases (f x) m) (join
     go (inl k) below = (x, List·Memᴰ·head refl, k)
     go (inr k) below = let r = below k in (r .0, List·Memᴰ·tail (r .1), r .2)
 
--- ---- upto
+-- ---- run and upto
+
+pub length-run : (lo n : ℕ) → length (run lo n) ≡ n
+length-run lo zero = refl
+length-run lo (suc n) = ap suc (length-run (suc lo) n)
+
+-- a run backward into two runs
+pub run-split : (i m n : ℕ) → run i (m + n) ≡ run i m ++ run (i + m) n
+run-split i zero n =
+    let e : 0 + n ≡ n = omega arith in
+    let k : i ≡ i + 0 = omega arith in
+    λ j. run (k j) (e j)
+run-split i (suc m) n =
+    let e : suc m + n ≡ suc (m + n) = omega arith in
+    let k : suc i + m ≡ i + suc m = omega arith in
+    ap (run i) e ∙ ap (λ (l : List ℕ). i ∷ l) (run-split (suc i) m n) ∙ ap (λ (j : ℕ). run i (suc m) ++ run j n) k
+
+-- what a function makes of a run
+module _ {A : Type 0} (f : ℕ → A) where
+  pub getD-run : (lo n i : ℕ) (d : A) → i < n → getD (map f (run lo n)) i d ≡ f (lo + i)
+  getD-run lo zero i d h = absurd (omega arith)
+  getD-run lo (suc n) zero d h = let e : lo ≡ lo + 0 = omega arith in ap f e
+  getD-run lo (suc n) (suc i) d h = let e : suc lo + i ≡ lo + suc i = omega arith in getD-run (suc lo) n i d (omega arith) ∙ ap f e
+
+  -- a list is made so where it has the function's values at its places
+  pub map-run : (lo n : ℕ) (d : A) (l : List A) → length l ≡ n → ((i : ℕ) → i < n → getD l i d ≡ f (lo + i)) → l ≡ map f (run lo n)
+  map-run lo n d l s h =
+      ext-getD d l (map f (run lo n)) (s ∙ sym (length-map (run lo n) f ∙ length-run lo n)) (λ i u.
+      let k : i < n = omega arith in h i k ∙ sym (getD-run lo n i d k))
 
 pub upto-step : (lo hi : ℕ) → lo < hi → upto lo hi ≡ lo ∷ upto (lo + 1) hi
 upto-step lo hi h =

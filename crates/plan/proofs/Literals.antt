@@ -17,8 +17,7 @@ use Rattle.plan.specs.Lists.{within, upto}
 use Rattle.plan.specs.Records.{field, kind, junctions, records, modes}
 use Rattle.plan.specs.Refusals.{broken6, fitsBy, literalFits, misnames}
 use Rattle.plan.specs.Limits.{Names}
-use Rattle.plan.proofs.Lists.{test, both, and-is, any-none, in-upto}
-use Rattle.plan.proofs.Forms.{within-is, is-within}
+use Rattle.plan.proofs.Lists.{test, both, and-is, within-is, is-within, any-none, in-upto}
 
 pub fits-belt : (b : List ℕ) (l : ℕ) → field b l 3 ≡ 0 → literalFits b l ≡ (ltb (field b l 4) (records b) && eqb (kind b (field b l 4)) 2)
 fits-belt b l e = ap (λ (t : Bool). fitsBy t b (field b l 4)) (eq-eqb (field b l 3) 0 e)

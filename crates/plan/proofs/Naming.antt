@@ -1,13 +1,13 @@
 -- The named belts of a plan whose lines 1 to 6 are unbroken, and the marks by which the code finds them.
 --
 --   names-record     a literal of a belt names a belt record (line 6)
---   few, room        there are at most 2,048 records, and each is in the bytes
 --   noted-step, noted-done, length-note, length-noted, length-notes
 --                    for the loop that marks
 --   noted-at         the mark of e is 1 where some literal names it, else 0
 --   few-named        line 7 as a number
 --   in-named, named-of
 --                    what is in `named p`, for any plan p
+--   names-back       the names of the belts at records are the records
 --   named-in, named-rises
 --                    the named belts are belt records, and rise
 --   named-marks, named-count, kept-named

@@ -2,7 +2,8 @@
 --
 --   length-listed, listed-at
 --                     the array has 48 places, and the first of them hold the named belts
---   listed-sets       belts stored from the front of an array of 48 are `listed`
+--   ids-sets          belts stored from the front of a fresh array stand there, and the rest of it is fresh
+--   listed-sets       stored in an array of 48 they are `listed`
 --   numbered          the elements of a list numbered in an array
 --   numbered-places   numbered in an array of 2,048 they are `placesOf`
 --   place-is          the place that this array has for a belt is its place
@@ -17,14 +18,14 @@ use Prim.Native.Nat.{ℕ, zero, suc, _+_, _-_, _≤_, _<_}
 use mathlib.Core.List.{List, [], _∷_, _++_, map, List·Memᴰ, List·Memᴰ·head, List·Memᴰ·tail}
 use native.Mathlib.Omega.{arith}
 use lib.ListN.{length, getD, drop, set, replicate, length-set, length-map, length-replicate, getD-replicate, length-append, List·getD-append, List·getD-map}
-use lib.Seq.{getD-set-same, getD-set-other, sets, sets-eq, ext-getD}
+use lib.Seq.{getD-set-same, getD-set-other, sets, sets-eq}
 use lib.Dec.{eqb, ltb}
 use borrow.Author.Tests.{eqb-true, eqb-false, ne-eqb, lt-ltb, le-ltb}
 use Rattle.plan.specs.declared.named.Place.{Place}
 use Rattle.plan.specs.declared.named.Place.the-variants.{At, Unnamed}
 use Rattle.plan.specs.Lists.{counted, count, mem, run}
 use Rattle.plan.specs.Plan.{beltId, listed, placeBy, placeOf, placeCode, placesOf, codePlace, placeIn}
-use Rattle.plan.proofs.Lists.{test, none-any, in-mem, mem-in}
+use Rattle.plan.proofs.Lists.{test, none-any, getD-run, map-run, in-mem, mem-in}
 use Rattle.plan.proofs.Counts.{count-none}
 use Rattle.plan.proofs.Rising.{Rises, none, more}
 
@@ -37,6 +38,7 @@ drop-replicate (suc k) (suc n) a =
     let e : n - k ≡ suc n - suc k = omega arith in
     drop-replicate k n a ∙ ap (λ (m : ℕ). replicate m a) e
 
+-- what is stored from the front of a fresh array stands there, and the rest of it is fresh
 stored : {A : Type 0} (n : ℕ) (a : A) (vs : List A) → length vs ≤ n → sets (replicate n a) 0 vs ≡ vs ++ replicate (n - length vs) a
 stored n a vs h =
     let size = length-replicate n a in
@@ -52,10 +54,14 @@ pub listed-at : (ns : List ℕ) (k : ℕ) → k < length ns → getD (listed ns)
 listed-at ns k h =
     List·getD-append (map beltId ns) (replicate (48 - length ns) (beltId 0)) (beltId 0) k (omega (arith, length-map ns beltId)) ∙ List·getD-map beltId ns k 0
 
+pub ids-sets : (n : ℕ) (es : List ℕ) → length es ≤ n
+    → sets (replicate n (beltId 0)) 0 (map beltId es) ≡ map beltId es ++ replicate (n - length es) (beltId 0)
+ids-sets n es h =
+    let size = length-map es beltId in
+    stored n (beltId 0) (map beltId es) (omega arith) ∙ ap (λ (m : ℕ). map beltId es ++ replicate (n - m) (beltId 0)) size
+
 pub listed-sets : (ns : List ℕ) → length ns ≤ 48 → sets (replicate 48 (beltId 0)) 0 (map beltId ns) ≡ listed ns
-listed-sets ns h =
-    let size = length-map ns beltId in
-    stored 48 (beltId 0) (map beltId ns) (omega arith) ∙ ap (λ (m : ℕ). map beltId ns ++ replicate (48 - m) (beltId 0)) size
+listed-sets = ids-sets 48
 
 -- ---- lists that rise
 
@@ -129,15 +135,6 @@ numbered-at places k e (more {x} {xs} h r) l =
         ∙ later (mem e xs) refl
         ∙ sym (ap (λ (s : Bool). codeBy (s || mem e xs) (k + counted (ltb x e) lower) (getD places e 0)) t)
 
-getD-run : (f : ℕ → ℕ) (lo n i : ℕ) → i < n → getD (map f (run lo n)) i 0 ≡ f (lo + i)
-getD-run f lo zero i h = absurd (omega arith)
-getD-run f lo (suc n) zero h = let e : lo ≡ lo + 0 = omega arith in ap f e
-getD-run f lo (suc n) (suc i) h = let e : suc lo + i ≡ lo + suc i = omega arith in getD-run f (suc lo) n i (omega arith) ∙ ap f e
-
-length-run : (f : ℕ → ℕ) (lo n : ℕ) → length (map f (run lo n)) ≡ n
-length-run f lo zero = refl
-length-run f lo (suc n) = ap suc (length-run f (suc lo) n)
-
 abbrev codeOf : List ℕ → ℕ → ℕ
 codeOf ns e = placeCode (placeOf ns e)
 
@@ -148,18 +145,15 @@ code-by false k = refl
 -- for an array of any length
 numbered-codes : (size : ℕ) (ns : List ℕ) → Rises ns → numbered (replicate size 0) 0 ns ≡ map (codeOf ns) (run 0 size)
 numbered-codes size ns r =
-    let count-all = length-numbered (replicate size 0) 0 ns ∙ length-replicate {A = ℕ} size 0 in
-    ext-getD 0 (numbered (replicate size 0) 0 ns) (map (codeOf ns) (run 0 size)) (count-all ∙ sym (length-run (codeOf ns) 0 size)) (λ e l.
-    let fits : e < size = omega arith in
     let full = length-replicate {A = ℕ} size 0 in
+    map-run (codeOf ns) 0 size 0 (numbered (replicate size 0) 0 ns) (length-numbered (replicate size 0) 0 ns ∙ full) (λ e fits.
     let lower = count (λ (n : ℕ). ltb n e) ns in
     let z : 0 + lower ≡ lower = omega arith in
     let same : e ≡ 0 + e = omega arith in
     numbered-at (replicate size 0) 0 e r (omega arith)
     ∙ (λ i. codeBy (mem e ns) (z i) (getD-replicate {A = ℕ} size e 0 0 fits i))
     ∙ code-by (mem e ns) lower
-    ∙ ap (codeOf ns) same
-    ∙ sym (getD-run (codeOf ns) 0 size e fits))
+    ∙ ap (codeOf ns) same)
 
 pub numbered-places : (ns : List ℕ) → Rises ns → numbered (replicate 2048 0) 0 ns ≡ placesOf ns
 unfolding placesOf
@@ -175,4 +169,4 @@ pub place-is : (ns : List ℕ) (e : ℕ) → e < 2048 → placeIn (placesOf ns) 
 unfolding placesOf
 place-is ns e h =
     let same : 0 + e ≡ e = omega arith in
-    ap codePlace (getD-run (codeOf ns) 0 2048 e h ∙ ap (codeOf ns) same) ∙ code-back (placeOf ns e)
+    ap codePlace (getD-run (codeOf ns) 0 2048 e 0 h ∙ ap (codeOf ns) same) ∙ code-back (placeOf ns e)

@@ -20,14 +20,14 @@ use mathlib.Core.List.{List, [], _∷_, _++_, List·Memᴰ, List·Memᴰ·head, 
 use native.Mathlib.Omega.{arith}
 use native.Mathlib.Nat.{mul-zero, zero-mul, suc-mul, eq-zero-or-pos}
 use lib.Dec.{eqb, ltb}
-use borrow.Author.Tests.{eqb-true, eqb-false, eq-eqb, ne-eqb, ltb-true, ltb-false}
+use borrow.Author.Tests.{eqb-true, eq-eqb, ne-eqb, ltb-true, ltb-false}
 use Rattle.plan.specs.declared.table.Use.{Use}
 use Rattle.plan.specs.declared.table.Use.the-variants.{Any, Unused, Between, Chain}
 use Rattle.plan.specs.Lists.{counted, count, joined, run, upto}
 use Rattle.plan.specs.Records.{field, junctions, records, rowAt, useAt, fields, Link, linkBy, linksAt, links}
 use Rattle.plan.specs.Refusals.{pointers}
 use Rattle.plan.specs.Limits.{walk, reached}
-use Rattle.plan.proofs.Lists.{test, joined-in, upto-step, upto-in, count-append, count-some}
+use Rattle.plan.proofs.Lists.{test, eqb-sym, joined-in, run-split, upto-step, upto-in, count-append, count-some}
 use Rattle.plan.proofs.Links.{target, held-links, Upward, linkTo-in, in-links}
 
 -- ---- sums over lists
@@ -70,31 +70,12 @@ count-joined f g (x ∷ xs) = omega (arith, count-append f (g x) (joined g xs), 
 
 -- ---- the numbers of a range
 
--- a run backward into two runs
-run-split : (i m n : ℕ) → run i (m + n) ≡ run i m ++ run (i + m) n
-run-split i zero n =
-    let e : 0 + n ≡ n = omega arith in
-    let k : i ≡ i + 0 = omega arith in
-    λ j. run (k j) (e j)
-run-split i (suc m) n =
-    let e : suc m + n ≡ suc (m + n) = omega arith in
-    let k : suc i + m ≡ i + suc m = omega arith in
-    ap (run i) e ∙ ap (λ (l : List ℕ). i ∷ l) (run-split (suc i) m n) ∙ ap (λ (j : ℕ). run i (suc m) ++ run j n) k
-
 -- a range backward into two at any number in it
 upto-split : (lo mid hi : ℕ) → lo ≤ mid → mid ≤ hi → upto lo hi ≡ upto lo mid ++ upto mid hi
 upto-split lo mid hi a z =
     let e : hi - lo ≡ (mid - lo) + (hi - mid) = omega arith in
     let k : lo + (mid - lo) ≡ mid = omega arith in
     ap (run lo) e ∙ run-split lo (mid - lo) (hi - mid) ∙ ap (λ (j : ℕ). upto lo mid ++ run j (hi - mid)) k
-
--- the test for equality, either way round
-eqb-sym : (a b : ℕ) → eqb a b ≡ eqb b a
-eqb-sym a b = go (test (eqb a b))
-  where
-    go : (eqb a b ≡ true) ⊎ (eqb a b ≡ false) → eqb a b ≡ eqb b a
-    go (inl t) = t ∙ sym (eq-eqb b a (sym (eqb-true a b t)))
-    go (inr t) = t ∙ sym (ne-eqb b a (λ e. eqb-false a b t (sym e)))
 
 -- f x where x is the number y, and zero elsewhere
 abbrev only : (ℕ → ℕ) → ℕ → ℕ → ℕ

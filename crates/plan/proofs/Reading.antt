@@ -1,4 +1,5 @@
--- What the layers above go by: laws of an accepted plan, each stated once. Every law takes `Accepted b` first.
+-- What the layers above go by: laws of an accepted plan, each stated once. Every law takes `Accepted b` first, except
+--   field-low               a field of bytes, of a plan or not, is below 65,536
 --
 -- Chains, step by step; a law `..-end` for the number 0, `..-next` for a record, `..-is` for what a number on a chain is:
 --   leaving-from, belts-end, belts-next, first-belt-is, next-belt-is             the belts leaving a junction
@@ -10,7 +11,8 @@
 --   belt-in, belt-of        the belts of the plan are the belt records
 --   belts-rise              their names rise
 --   belt-name               two belts of one name are equal
---   named-is, not-named     a number is a belt's name exactly when it is the index of a belt record
+--   belt-named, name-belt, not-named, named-is
+--                           a number is a belt's name exactly when it is the index of a belt record
 --   belt-ends               a belt leaves a junction and leads to a higher one
 --   belt-leaving            a belt is among those leaving one junction, and that is where it leaves
 --   on-chain, one-chain     its record stands on the chain of that junction and of no other
@@ -59,6 +61,9 @@ by-belt false v n e w q = let z : _≡_ {A = ℕ} 0 1 = cc in absurd (omega arit
 by-mode : (t v : Bool) (n : ℕ) (m : ModeId) (w : Bool) → OfMode m w ≡ literalBy t v n → (t ≡ false) × (m .0 ≡ n)
 by-mode true v n m w q = let z : _≡_ {A = ℕ} 0 1 = cc in absurd (omega arith)
 by-mode false v n m w q = let k : m ≡ record { 0 = n } = cc in (refl, ap (λ (x : ModeId). x .0) k)
+
+pub field-low : (b : List ℕ) → Bytes b → (i f : ℕ) → field b i f < 65536
+field-low b bytes i f = omega (arith, bytes (12 * i + 2 * f), bytes (12 * i + 2 * f + 1))
 
 module _ {b : List ℕ} (ok : Accepted b) where
   links : Linked b
@@ -210,7 +215,7 @@ module _ {b : List ℕ} (ok : Accepted b) where
   belt-low e o = (above links belts e o, o .0, omega (arith, o .0, limits .sizes .few))
 
   pub belt-cost : Bytes b → (e : ℕ) → beltAt b e .cost < 65536
-  belt-cost bytes e = omega (arith, bytes (12 * e + 2 * 3), bytes (12 * e + 2 * 3 + 1))
+  belt-cost bytes e = field-low b bytes e 3
 
   pub belts-cost : Bytes b → (x : Belt) → List·Memᴰ x (planOf b .belts) → x .cost < 65536
   belts-cost bytes x m = subst (λ (y : Belt). y .cost < 65536) (sym (belt-of x m .1)) (belt-cost bytes (x .name))

@@ -13,20 +13,20 @@
 --   finding-claim      FirstFindingClaim
 --
 -- Assumes nothing.
-use mathlib.Core.Path.{_≡_, refl, sym, _∙_, ap, subst}
+use mathlib.Core.Path.{_≡_, refl, sym, _∙_, ap}
 use mathlib.Core.Logic.{_⊎_, inl, inr}
 use mathlib.Core.Bool.{Bool, true, false, not, _&&_, true≢false}
 use Prim.Native.Nat.{ℕ, _^_, _≤_}
 use mathlib.Core.List.{List, [], _∷_, _++_, map, List·Memᴰ, List·Memᴰ·head, List·Memᴰ·tail, List·Memᴰ·eq-of-singleton, List·Memᴰ·append-cases, Memᴰ·append-left, Memᴰ·append-right}
-use lib.Dec.{eqb, leb, ltb}
-use borrow.Author.Tests.{leb-true, le-leb, not-false}
+use lib.Dec.{eqb, ltb}
+use borrow.Author.Tests.{not-false}
 use Rattle.plan.specs.Lists.{all, mem, within}
 use Rattle.plan.specs.Plan.{planOf, namesOf}
 use Rattle.plan.specs.Refusals.{Line, planLines, firstBroken, refusal}
-use Rattle.plan.specs.Claims.{Unbroken, FirstIn}
+use Rattle.plan.specs.Claims.{Unbroken}
 use Rattle.plan.specs.Reading.{Accepted}
-use Rattle.plan.proofs.Lists.{all-in, and-is, both, in-map, map-in}
-use Rattle.plan.proofs.First.{on-broken, on-unbroken, first-is, is-first, none-broken, passed}
+use Rattle.plan.proofs.Lists.{both, and-is, within-is, is-within, in-map, map-in}
+use Rattle.plan.proofs.First.{on-broken, on-unbroken, past, none-broken, first-exactly, passed}
 use Rattle.plan.proofs.Accepted.{unbroken}
 use Rattle.route.specs.Refusals.{Case, onPlan, broken8, broken11, broken12, broken13, broken14, routeOn, queryLines, sheetLines, checkLines, sheetRefusal}
 use Rattle.route.specs.declared.sheet.Sheet.{Sheet}
@@ -39,14 +39,7 @@ use Rattle.route.specs.Claims.{FirstFindingClaim}
 
 pub finding-claim : FirstFindingClaim
 unfolding sheetRefusal
-finding-claim k n = (λ e. subst Out e (first-is checkLines k), back)
-  where
-    Out : ℕ → Type 0
-    Out m = ((m ≡ 0) × Unbroken checkLines k) ⊎ FirstIn checkLines k m
-
-    back : ((n ≡ 0) × Unbroken checkLines k) ⊎ FirstIn checkLines k n → firstBroken checkLines k ≡ n
-    back (inl h) = none-broken checkLines k (h .1) ∙ sym (h .0)
-    back (inr f) = is-first checkLines k n f
+finding-claim k n = first-exactly checkLines k n
 
 -- ---- lines of plans
 
@@ -66,11 +59,9 @@ module _ (k : Case) (rest : List (Line Case)) where
       go true h below = refl
       go false h below = below h
 
-  -- where none is broken, the rest decides
-  plan-past : (ls : List (Line (List ℕ))) → Unbroken ls (k .plan) → firstBroken (map onPlan ls ++ rest) k ≡ firstBroken rest k
-  plan-past [] h = refl
-  plan-past (l ∷ ls) h =
-      on-unbroken (onPlan l) (map onPlan ls ++ rest) k (h l (List·Memᴰ·head refl)) ∙ plan-past ls (λ x m. h x (List·Memᴰ·tail m))
+-- lines that the plan leaves unbroken are unbroken by the case
+on-plan : (k : Case) (ls : List (Line (List ℕ))) → Unbroken ls (k .plan) → Unbroken (map onPlan ls) k
+on-plan k ls h l m = let (x, n, q) = map-in onPlan ls m in ap (λ (y : Line Case). y .broken k) q ∙ h x n
 
 abbrev line8 : Line Case
 line8 = record { number = 8; broken = broken8 }
@@ -98,7 +89,7 @@ lines-sheet f x y b c d e = (λ i. linesBy (not (e i && x && y)) (not b) (not c)
 module _ (k : Case) (ok : Accepted (k .plan)) where
   behind : sheetRefusal k ≡ firstBroken (line8 ∷ sheetLines) k
   unfolding sheetRefusal
-  behind = plan-past k (line8 ∷ sheetLines) planLines (unbroken (k .plan) (ok .unrefused))
+  behind = past (map onPlan planLines) (line8 ∷ sheetLines) k (on-plan k planLines (unbroken (k .plan) (ok .unrefused)))
 
   pub refused-8 : broken8 k ≡ true → sheetRefusal k ≡ 8
   refused-8 e = behind ∙ on-broken line8 sheetLines k e
@@ -145,14 +136,10 @@ module _ (k : Case) (ok : Accepted (k .plan)) where
           pub refused-14 : broken14 k ≡ true → sheetRefusal k ≡ 14
           refused-14 e = by-sheet ∙ (λ i. linesBy (e11 i) (e12 i) (e13 i) (e i))
 
-          pub none-refused : broken14 k ≡ false → sheetRefusal k ≡ 0
+          none-refused : broken14 k ≡ false → sheetRefusal k ≡ 0
           none-refused e = by-sheet ∙ (λ i. linesBy (e11 i) (e12 i) (e13 i) (e i))
 
 -- ---- what unbroken lines say
-
--- no line has the number 0
-from-1 : (l : Line Case) → List·Memᴰ l checkLines → 1 ≤ l .number
-from-1 l m = leb-true 1 (l .number) (all-in (λ (x : Line Case). leb 1 (x .number)) checkLines refl m)
 
 -- what is said of lines 1 to 8, and of the four of the sheet
 pub record Unrefused (k : Case) : Type 0 where
@@ -165,7 +152,7 @@ pub record Unrefused (k : Case) : Type 0 where
 pub zero-unrefused : (k : Case) → sheetRefusal k ≡ 0 → Unrefused k
 unfolding sheetRefusal
 zero-unrefused k e =
-    let h = passed checkLines k from-1 e in
+    let h = passed checkLines k refl e in
     let sheet : (l : Line Case) → List·Memᴰ l sheetLines → l .broken k ≡ false = λ l m. h l (Memᴰ·append-right queryLines m) in
     record {
       query = λ l m. h l (Memᴰ·append-left sheetLines m);
@@ -180,7 +167,7 @@ module _ (k : Case) where
   unfolding refusal
   query-accepted h = record { unrefused = none-broken planLines (k .plan) (λ l m. h (onPlan l) (Memᴰ·append-left (line8 ∷ []) (in-map onPlan m))) }
 
-  pub query-ends : Unbroken queryLines k → broken8 k ≡ false
+  query-ends : Unbroken queryLines k → broken8 k ≡ false
   query-ends h = h line8 (Memᴰ·append-right (map onPlan planLines) (List·Memᴰ·head refl))
 
   pub unrefused-zero : Unrefused k → sheetRefusal k ≡ 0
@@ -191,9 +178,7 @@ module _ (k : Case) where
   ends-query ok e l m = go (List·Memᴰ·append-cases (map onPlan planLines) m)
     where
       go : List·Memᴰ l (map onPlan planLines) ⊎ List·Memᴰ l (line8 ∷ []) → l .broken k ≡ false
-      go (inl a) =
-          let (x, n, q) = map-in onPlan planLines a in
-          ap (λ (y : Line Case). y .broken k) q ∙ unbroken (k .plan) (ok .unrefused) x n
+      go (inl a) = on-plan k planLines (unbroken (k .plan) (ok .unrefused)) l a
       go (inr a) = ap (λ (y : Line Case). y .broken k) (List·Memᴰ·eq-of-singleton a) ∙ e
 
   pub outside-s : not (within 1 (k .s) (planOf (k .plan) .junctions)) ≡ true → broken8 k ≡ true
@@ -223,15 +208,13 @@ module _ (k : Case) where
   unfolding broken8
   inside a b c d =
       let J = planOf (k .plan) .junctions in
-      let s = and-is (leb 1 (k .s)) (leb (k .s) J) (le-leb 1 (k .s) a) (le-leb (k .s) J b) in
-      let t = and-is (leb 1 (k .t)) (leb (k .t) J) (le-leb 1 (k .t) c) (le-leb (k .t) J d) in
-      ap not (and-is (within 1 (k .s) J) (within 1 (k .t) J) s t)
+      ap not (and-is (within 1 (k .s) J) (within 1 (k .t) J) (is-within 1 (k .s) J a b) (is-within 1 (k .t) J c d))
 
   pub ends-inside : broken8 k ≡ false → (1 ≤ k .s) × (k .s ≤ planOf (k .plan) .junctions) × (1 ≤ k .t) × (k .t ≤ planOf (k .plan) .junctions)
   unfolding broken8
   ends-inside e =
       let J = planOf (k .plan) .junctions in
       let w = both (within 1 (k .s) J) (within 1 (k .t) J) (not-false (within 1 (k .s) J && within 1 (k .t) J) e) in
-      let s = both (leb 1 (k .s)) (leb (k .s) J) (w .0) in
-      let t = both (leb 1 (k .t)) (leb (k .t) J) (w .1) in
-      (leb-true 1 (k .s) (s .0), leb-true (k .s) J (s .1), leb-true 1 (k .t) (t .0), leb-true (k .t) J (t .1))
+      let (a, b) = within-is 1 (k .s) J (w .0) in
+      let (c, d) = within-is 1 (k .t) J (w .1) in
+      (a, b, c, d)

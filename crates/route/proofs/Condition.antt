@@ -1,8 +1,8 @@
 -- Laws of conditioning a formula (specs/Lcsp.antt).
 --
---   beq-true, beq-refl   the equality test of Booleans
 --   lit-true, lit-refl   the equality test of literals
---   in-set, set-in       `l ∈? α` is true exactly where l is in α
+--   in-set, set-in, not-in
+--                        `l ∈? α` is true exactly where l is in α
 --   Hit T α              the clause α holds a literal of T
 --   satisfied-hit        where T satisfies Φ, every clause of Φ holds a literal of T
 --   hit-satisfied        where every clause of Φ holds a literal of T, and T is consistent, T satisfies Φ
@@ -14,26 +14,14 @@
 use mathlib.Core.Path.{_≡_, refl, sym, _∙_, ap, subst}
 use mathlib.Core.Logic.{_⊎_, inl, inr, _↔_}
 use mathlib.Core.Bool.{Bool, true, false, not, _&&_, _||_, Bool·beq, true≢false}
-use Prim.Native.Nat.{ℕ}
-use mathlib.Core.List.{List, [], _∷_, map, List·Memᴰ, List·Memᴰ·head, List·Memᴰ·tail, List·Memᴰ·not-nil, List·Memᴰ·cases-cons}
-use lib.Dec.{eqb}
-use borrow.Author.Tests.{eqb-true, eqb-false, eq-eqb, ne-eqb}
+use mathlib.Core.List.{List, [], _∷_, map, List·Memᴰ, List·Memᴰ·head, List·Memᴰ·tail, List·Memᴰ·not-nil, List·Memᴰ·cases-cons, Memᴰ·cast}
+use borrow.Author.Tests.{eqb-true, eq-eqb}
 use Rattle.plan.specs.Lists.{any}
-use Rattle.plan.proofs.Lists.{test, both, either, never, in-any, in-map}
+use Rattle.plan.proofs.Lists.{test, both, never, beq-true, beq-refl, eqb-sym, in-any, any-some, in-map}
 use Rattle.route.specs.Lcsp.{Var, graph, free, Lit, ¬ₗ, sameVar, sameLit, Clause, Formula, _∈?_, Consistent, unless, without, lacking, _∣_, _∥_, Satisfies}
 use Rattle.route.specs.Claims.{OrderFreeClaim}
 
 -- ---- the equality tests
-
-pub beq-true : (a b : Bool) → Bool·beq a b ≡ true → a ≡ b
-beq-true true true h = refl
-beq-true true false h = absurd (true≢false (sym h))
-beq-true false true h = absurd (true≢false (sym h))
-beq-true false false h = refl
-
-pub beq-refl : (a : Bool) → Bool·beq a a ≡ true
-beq-refl true = refl
-beq-refl false = refl
 
 var-true : (v w : Var) → sameVar v w ≡ true → v ≡ w
 var-true (graph a) (graph b) h = ap graph (eqb-true a b h)
@@ -45,24 +33,17 @@ var-refl : (v : Var) → sameVar v v ≡ true
 var-refl (graph a) = eq-eqb a a refl
 var-refl (free a) = eq-eqb a a refl
 
-pub lit-true : (l m : Lit) → sameLit l m ≡ true → l ≡ m
+lit-true : (l m : Lit) → sameLit l m ≡ true → l ≡ m
 lit-true l m h =
     let k = both (Bool·beq (l .positive) (m .positive)) (sameVar (l .var) (m .var)) h in
     let e : l .positive ≡ m .positive = beq-true (l .positive) (m .positive) (k .0) in
     let v : l .var ≡ m .var = var-true (l .var) (m .var) (k .1) in
     λ i. record { positive = e i; var = v i }
 
-pub lit-refl : (l : Lit) → sameLit l l ≡ true
+lit-refl : (l : Lit) → sameLit l l ≡ true
 lit-refl l = λ i. beq-refl (l .positive) i && var-refl (l .var) i
 
 -- ---- they are symmetric
-
-eqb-sym : (a b : ℕ) → eqb a b ≡ eqb b a
-eqb-sym a b = go (test (eqb a b))
-  where
-    go : (eqb a b ≡ true) ⊎ (eqb a b ≡ false) → eqb a b ≡ eqb b a
-    go (inl t) = t ∙ sym (eq-eqb b a (sym (eqb-true a b t)))
-    go (inr t) = t ∙ sym (ne-eqb b a (λ e. eqb-false a b t (sym e)))
 
 var-sym : (v w : Var) → sameVar v w ≡ sameVar w v
 var-sym (graph a) (graph b) = eqb-sym a b
@@ -91,30 +72,18 @@ opposite-sym l m = λ i. go (l .positive) (m .positive) i && var-sym (l .var) (m
 
 -- ---- membership
 
-or-left : (a b : Bool) → a ≡ true → (a || b) ≡ true
-or-left a b h = λ i. h i || b
-
-or-right : (a b : Bool) → b ≡ true → (a || b) ≡ true
-or-right true b h = refl
-or-right false b h = h
+-- it is `any` of the equality test
+set-any : (l : Lit) (α : List Lit) → (l ∈? α) ≡ any (sameLit l) α
+set-any l [] = refl
+set-any l (m ∷ α) = ap (λ (t : Bool). sameLit l m || t) (set-any l α)
 
 pub in-set : (l : Lit) (α : List Lit) → List·Memᴰ l α → (l ∈? α) ≡ true
-in-set l [] m = absurd (List·Memᴰ·not-nil m)
-in-set l (x ∷ α) m = go (List·Memᴰ·cases-cons m) (in-set l α)
-  where
-    go : (l ≡ x) ⊎ List·Memᴰ l α → (List·Memᴰ l α → (l ∈? α) ≡ true) → (sameLit l x || (l ∈? α)) ≡ true
-    go (inl e) below = or-left (sameLit l x) (l ∈? α) (subst (λ (y : Lit). sameLit l y ≡ true) e (lit-refl l))
-    go (inr k) below = or-right (sameLit l x) (l ∈? α) (below k)
+in-set l α m = set-any l α ∙ in-any (sameLit l) α m (lit-refl l)
 
-pub set-in : (l : Lit) (α : List Lit) → (l ∈? α) ≡ true → List·Memᴰ l α
-set-in l [] h = absurd (true≢false (sym h))
-set-in l (x ∷ α) h = go (either (sameLit l x) (l ∈? α) h) (set-in l α)
-  where
-    go : (sameLit l x ≡ true) ⊎ ((l ∈? α) ≡ true) → ((l ∈? α) ≡ true → List·Memᴰ l α) → List·Memᴰ l (x ∷ α)
-    go (inl t) below = List·Memᴰ·head (lit-true l x t)
-    go (inr t) below = List·Memᴰ·tail (below t)
+set-in : (l : Lit) (α : List Lit) → (l ∈? α) ≡ true → List·Memᴰ l α
+set-in l α h = let (m, k, e) = any-some (sameLit l) α (sym (set-any l α) ∙ h) in Memᴰ·cast (lit-true l m e) k
 
-not-in : (l : Lit) (α : List Lit) → (List·Memᴰ l α → ⊥) → (l ∈? α) ≡ false
+pub not-in : (l : Lit) (α : List Lit) → (List·Memᴰ l α → ⊥) → (l ∈? α) ≡ false
 not-in l α h = go (test (l ∈? α))
   where
     go : ((l ∈? α) ≡ true) ⊎ ((l ∈? α) ≡ false) → (l ∈? α) ≡ false

@@ -21,23 +21,21 @@ use mathlib.Core.Path.{_≡_, refl, sym, _∙_, ap, subst}
 use mathlib.Core.Logic.{_⊎_, inl, inr}
 use mathlib.Core.Bool.{Bool, true, false, not, _||_, Bool·beq, true≢false}
 use Prim.Native.Nat.{ℕ, suc, _≤_}
-use mathlib.Core.List.{List, [], _∷_, map, List·Memᴰ, List·Memᴰ·head, List·Memᴰ·tail, List·Memᴰ·append-cases, Memᴰ·append-left, Memᴰ·append-right, Memᴰ·cast}
+use mathlib.Core.List.{List, [], _∷_, map, List·Memᴰ, List·Memᴰ·append-cases, Memᴰ·append-left, Memᴰ·append-right, Memᴰ·cast}
 use native.Mathlib.Omega.{arith}
 use lib.Dec.{eqb}
 use Rattle.plan.specs.declared.read.Literal.{Literal}
 use Rattle.plan.specs.declared.read.Literal.the-variants.{OfBelt, OfMode}
-use Rattle.plan.specs.Lists.{any, all}
-use Rattle.plan.specs.Plan.{Belt, Plan, planOf, beltAt}
+use Rattle.plan.specs.Plan.{Belt, Plan, planOf}
 use Rattle.plan.specs.Reading.{Accepted}
-use Rattle.plan.proofs.Lists.{test, and-is, all-in, in-any, any-some, in-map, map-in, in-upto, upto-in}
-use Rattle.plan.proofs.Reading.{belt-in, literal-belt, literal-mode}
-use Rattle.route.specs.Lcsp.{Var, graph, free, Lit, ¬ₗ, sameLit, Clause, Formula, Consistent, IsAssignment, AssignedTrue, AssignedFalse, IsComplete, Satisfies, Arc, arcVar, variables, onPath, induced, Agree, FeasibleBy, Feasible}
+use Rattle.plan.proofs.Lists.{test, beq-true, beq-refl, all-in, all-is, in-any, any-some, in-map, map-in, upto-in}
+use Rattle.route.specs.Lcsp.{Var, graph, free, Lit, ¬ₗ, Clause, Formula, _∈?_, Consistent, IsAssignment, AssignedTrue, AssignedFalse, IsComplete, Satisfies, Arc, arcVar, variables, onPath, induced, Agree, FeasibleBy, Feasible}
 use Rattle.route.specs.Routes.{IsRoute}
 use Rattle.route.specs.Permission.{passes, isOn, holds, met, allMet, Permitted}
 use Rattle.route.specs.Instances.{arcOf, litOf, modesOf, instanceOf, settled, joint}
 use Rattle.route.specs.Claims.{MetClaim, PermittedClaim, PathsClaim}
-use Rattle.route.proofs.Condition.{beq-true, beq-refl, lit-true, lit-refl, Hit, satisfied-hit, hit-satisfied}
-use Rattle.route.proofs.Plans.{arcs-belts, route-path, path-route}
+use Rattle.route.proofs.Condition.{in-set, not-in, Hit, satisfied-hit, hit-satisfied}
+use Rattle.route.proofs.Plans.{arcs-belts, route-path, path-route, arc-var, mode-var, names-variable}
 use Rattle.route.proofs.Bits.{setting}
 
 -- ---- values
@@ -102,13 +100,7 @@ module _ (p : Plan) (s t : ℕ) where
   abbrev Rules : Formula
   Rules = instanceOf p s t .formula
 
-  -- the variables are those of the arcs, and the modes
-  arc-var : (a : Arc) → List·Memᴰ a Arcs → List·Memᴰ (arcVar a) Vars
-  arc-var a m = Memᴰ·append-left (map free (modesOf (p .modes))) (in-map arcVar m)
-
-  mode-var : (n : ℕ) → List·Memᴰ n (modesOf (p .modes)) → List·Memᴰ (free n) Vars
-  mode-var n m = Memᴰ·append-right (map arcVar Arcs) (in-map free m)
-
+  -- a variable is that of an arc, or a mode
   abbrev IsVar : Var → Type 0
   IsVar x = ((a : Arc) × List·Memᴰ a Arcs × (x ≡ arcVar a)) ⊎ ((n : ℕ) × List·Memᴰ n (modesOf (p .modes)) × (x ≡ free n))
 
@@ -132,10 +124,10 @@ module _ (p : Plan) (s t : ℕ) where
         go : List·Memᴰ l Induced ⊎ List·Memᴰ l (settled (p .modes) σ) → List·Memᴰ (l .var) Vars × Right r σ l
         go (inl k) =
             let (a, i, q) = map-in (arcSays (map arcOf r)) Arcs k in
-            (Memᴰ·cast (ap (λ (x : Lit). x .var) q) (arc-var a i), induced-right r σ Arcs l k)
+            (Memᴰ·cast (ap (λ (x : Lit). x .var) q) (arc-var p s t a i), induced-right r σ Arcs l k)
         go (inr k) =
             let (n, i, q) = map-in (modeSays σ) (modesOf (p .modes)) k in
-            (Memᴰ·cast (ap (λ (x : Lit). x .var) q) (mode-var n i), subst (Right r σ) (sym q) refl)
+            (Memᴰ·cast (ap (λ (x : Lit). x .var) q) (mode-var p s t n i), subst (Right r σ) (sym q) refl)
 
     in-joint : (l : Lit) → List·Memᴰ (l .var) Vars → Right r σ l → List·Memᴰ l Joint
     in-joint l m right = go (var-is (l .var) m)
@@ -177,10 +169,6 @@ module _ (p : Plan) (s t : ℕ) where
 
 -- ---- rules met and formulas satisfied
 
-all-is : {A : Type 0} (f : A → Bool) (xs : List A) → ((a : A) → List·Memᴰ a xs → f a ≡ true) → all f xs ≡ true
-all-is f [] h = refl
-all-is f (x ∷ xs) h = and-is (f x) (all f xs) (h x (List·Memᴰ·head refl)) (all-is f xs (λ a m. h a (List·Memᴰ·tail m)))
-
 right-met : (p : Plan) (s t : ℕ) (r : List Belt) (σ : ℕ) (T : List Lit) → AllRight r σ T → Satisfies T (Rules p s t)
     → allMet (p .rules) (passes r) σ ≡ true
 right-met p s t r σ T right h = all-is (met (passes r) σ) (p .rules) one
@@ -192,16 +180,6 @@ right-met p s t r σ T right h = all-is (met (passes r) σ) (p .rules) one
         in-any (holds (passes r) σ) rule i (right-holds r σ x (subst (Right r σ) q (right l j)))
 
 module _ {b : List ℕ} (ok : Accepted b) (s t : ℕ) where
-  -- what a literal of a rule names is a variable
-  literal-var : (rule : List Literal) → List·Memᴰ rule (planOf b .rules) → (l : Literal) → List·Memᴰ l rule
-      → List·Memᴰ (litOf l .var) (Vars (planOf b) s t)
-  literal-var rule m (OfBelt e wanted) k =
-      let named = belt-in ok (e .0) (literal-belt ok rule m e wanted k) in
-      arc-var (planOf b) s t (arcOf (beltAt b (e .0))) (in-map arcOf named)
-  literal-var rule m (OfMode n wanted) k =
-      let (l, u) = literal-mode ok rule m n wanted k in
-      mode-var (planOf b) s t (n .0) (in-upto 1 (suc (planOf b .modes)) (n .0) l (omega (arith, u)))
-
   met-satisfied : (r : List Belt) (σ : ℕ) → allMet (planOf b .rules) (passes r) σ ≡ true
       → Satisfies (Joint (planOf b) s t r σ) (Rules (planOf b) s t)
   met-satisfied r σ h = hit-satisfied (Joint (planOf b) s t r σ) (Rules (planOf b) s t) (joint-consistent (planOf b) s t r σ) one
@@ -212,7 +190,7 @@ module _ {b : List ℕ} (ok : Accepted b) (s t : ℕ) where
           let (l, j, e) = any-some (holds (passes r) σ) rule (all-in (met (passes r) σ) (planOf b .rules) h k) in (
             litOf l,
             subst (List·Memᴰ (litOf l)) (sym q) (in-map litOf j),
-            in-joint (planOf b) s t r σ (litOf l) (literal-var rule k l j) (holds-right r σ l e),
+            in-joint (planOf b) s t r σ (litOf l) (names-variable ok s t rule k l j) (holds-right r σ l e),
           )
 
 pub met-claim : MetClaim
@@ -240,17 +218,11 @@ module _ {b : List ℕ} (ok : Accepted b) (s t : ℕ) (r : List Belt) (σ : ℕ)
 
 -- what T says of mode n: on where it has the literal
 abbrev onIn : List Lit → ℕ → Bool
-onIn T n = any (sameLit (says true (free n))) T
+onIn T n = says true (free n) ∈? T
 
 on-is : (T : List Lit) → Consistent T → (w : Bool) (n : ℕ) → List·Memᴰ (says w (free n)) T → onIn T n ≡ w
-on-is T c true n m = in-any (sameLit (says true (free n))) T m (lit-refl (says true (free n)))
-on-is T c false n m = go (test (onIn T n))
-  where
-    go : (onIn T n ≡ true) ⊎ (onIn T n ≡ false) → onIn T n ≡ false
-    go (inl e) =
-        let (l, k, q) = any-some (sameLit (says true (free n))) T e in
-        absurd (c (says false (free n)) m (Memᴰ·cast (lit-true (says true (free n)) l q) k))
-    go (inr e) = e
+on-is T c true n m = in-set (says true (free n)) T m
+on-is T c false n m = not-in (says true (free n)) T (c (says false (free n)) m)
 
 module _ (p : Plan) (s t : ℕ) (r : List Belt) (T : List Lit) (f : FeasibleBy (instanceOf p s t) (map arcOf r) T) where
   all-right : (σ : ℕ) → ((n : ℕ) → 1 ≤ n → n ≤ p .modes → isOn σ n ≡ onIn T n) → AllRight r σ T

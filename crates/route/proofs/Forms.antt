@@ -3,29 +3,26 @@
 --   form-short, form-long, form-odd, form-head
 --                       what is too short, too long, of no whole number of records, or of a wrong record 0 is not in the form
 --   form-steps          all else is in it as its steps are
---   form-size           the size of what is in the form
---   length-belts        there are as many belts as steps
 --   beltsFrom h k n     the belts of the steps behind the first k, of n
 --   belts-next          one of them stored, the others are to be stored behind it
 --   belts-done          where none is left nothing is to be stored
 --
 -- Assumes nothing.
-use mathlib.Core.Path.{_≡_, refl, sym, _∙_, ap}
+use mathlib.Core.Path.{_≡_, sym, _∙_, ap}
 use mathlib.Core.Bool.{Bool, true, false, _&&_}
-use Prim.Native.Nat.{ℕ, zero, suc, _+_, _-_, _%_, _≤_, _<_}
+use Prim.Native.Nat.{ℕ, _+_, _%_, _≤_, _<_}
 use mathlib.Core.List.{List, map}
 use native.Mathlib.Omega.{arith}
 use native.Mathlib.Numerals.{add-one}
-use lib.ListN.{length, set, length-map}
+use lib.ListN.{length, set}
 use lib.Seq.{sets}
-use lib.Dec.{eqb, leb}
-use borrow.Author.Tests.{eqb-true, leb-true, eq-eqb, ne-eqb, le-leb, lt-leb}
-use Rattle.plan.specs.Lists.{all, run, upto, within}
+use borrow.Author.Tests.{eq-eqb, ne-eqb, le-leb, lt-leb}
+use Rattle.plan.specs.Lists.{all, upto}
 use Rattle.plan.specs.declared.read.BeltId.{BeltId}
 use Rattle.plan.specs.Records.{field}
 use Rattle.plan.specs.Plan.{beltId}
-use Rattle.plan.proofs.Lists.{both, upto-step, upto-end}
-use Rattle.route.specs.Sheets.{steps, headFits, stepFits, places, inForm, beltsOn}
+use Rattle.plan.proofs.Lists.{upto-step, upto-end}
+use Rattle.route.specs.Sheets.{headFits, stepFits, places, inForm}
 
 -- ---- the form
 
@@ -52,25 +49,7 @@ module _ (h : List ℕ) where
   pub form-steps : 12 ≤ length h → length h ≤ 3072 → length h % 12 ≡ 0 → headFits h ≡ true → all (stepFits h) (places h) ≡ inForm h
   form-steps a b e f = sym (sized a b e ∙ ap (λ (t : Bool). t && all (stepFits h) (places h)) f)
 
-  pub form-size : inForm h ≡ true → (12 ≤ length h) × (length h ≤ 3072) × (length h % 12 ≡ 0)
-  unfolding inForm
-  form-size t =
-      let s = within 12 (length h) 3072 in
-      let r = eqb (length h % 12) 0 in
-      let k = both (s && r) (headFits h) (both (s && r && headFits h) (all (stepFits h) (places h)) t .0) .0 in
-      let w = both (leb 12 (length h)) (leb (length h) 3072) (both s r k .0) in
-      (leb-true 12 (length h) (w .0), leb-true (length h) 3072 (w .1), eqb-true (length h % 12) 0 (both s r k .1))
-
 -- ---- the belts
-
-length-run : (i n : ℕ) → length (run i n) ≡ n
-length-run i zero = refl
-length-run i (suc n) = ap suc (length-run (suc i) n)
-
-pub length-belts : (h : List ℕ) → length (beltsOn h) ≡ steps h
-length-belts h =
-    let e : steps h + 1 - 1 ≡ steps h = omega arith in
-    length-map (places h) (λ (i : ℕ). field h i 2) ∙ length-run 1 (steps h + 1 - 1) ∙ e
 
 -- the belts of the steps behind the first k, of n
 abbrev pub beltsFrom : List ℕ → ℕ → ℕ → List BeltId

@@ -1,6 +1,7 @@
 -- Whether rules are met, by the belts that their literals name.
 --
---   met-cong          two tests that agree on the belts that the rules name meet the same rules; lowest-cong: have one lowest setting
+--   Agree rules x y   the tests x and y agree on the belts that the rules name
+--   met-cong          such tests meet the same rules; lowest-cong: have one lowest setting
 --   permitted-same    so have two routes that pass the same of these belts
 --   known-low         the belts of a Route of an accepted plan can be looked up
 --   passes-named      the belts of an accepted plan with these names pass exactly these
@@ -9,19 +10,16 @@
 --
 -- Assumes nothing.
 use mathlib.Core.Path.{_≡_, refl, sym, _∙_, ap}
-use mathlib.Core.Logic.{_⊎_, inl, inr}
-use mathlib.Core.Bool.{Bool, true, false, Bool·beq, _&&_, _||_}
+use mathlib.Core.Bool.{Bool, Bool·beq, _||_}
 use Prim.Native.Nat.{ℕ, _^_}
-use mathlib.Core.List.{List, [], _∷_, map, List·Memᴰ, List·Memᴰ·head, List·Memᴰ·tail}
-use lib.Dec.{eqb}
-use borrow.Author.Tests.{eqb-true, eqb-false, eq-eqb, ne-eqb}
+use mathlib.Core.List.{List, [], _∷_, map, List·Memᴰ}
 use Rattle.plan.specs.declared.read.BeltId.{BeltId}
 use Rattle.plan.specs.declared.read.Literal.{Literal}
 use Rattle.plan.specs.declared.read.Literal.the-variants.{OfBelt, OfMode}
-use Rattle.plan.specs.Lists.{all, mem, run}
+use Rattle.plan.specs.Lists.{mem, run}
 use Rattle.plan.specs.Plan.{Belt, planOf, beltAt}
 use Rattle.plan.specs.Reading.{Accepted, IsBelt}
-use Rattle.plan.proofs.Lists.{test, any-cong}
+use Rattle.plan.proofs.Lists.{eqb-sym, any-cong, all-cong}
 use Rattle.plan.proofs.Reading.{literal-belt, belt-low}
 use Rattle.route.specs.declared.path.Route.{Route}
 use Rattle.route.specs.Routes.{beltsNamed}
@@ -34,16 +32,11 @@ use Rattle.route.proofs.Marks.{marked-is}
 
 -- ---- tests that agree
 
-all-cong : {A : Type 0} (f g : A → Bool) (xs : List A) → ((a : A) → List·Memᴰ a xs → f a ≡ g a) → all f xs ≡ all g xs
-all-cong f g [] h = refl
-all-cong f g (x ∷ xs) h = λ i. h x (List·Memᴰ·head refl) i && all-cong f g xs (λ a m. h a (List·Memᴰ·tail m)) i
-
--- two tests that agree on the belts that the rules name
 abbrev pub Agree : List (List Literal) → (ℕ → Bool) → (ℕ → Bool) → Type 0
 Agree rules x y =
     (rule : List Literal) → List·Memᴰ rule rules → (e : BeltId) (w : Bool) → List·Memᴰ (OfBelt e w) rule → x (e .0) ≡ y (e .0)
 
-pub met-cong : (rules : List (List Literal)) (x y : ℕ → Bool) → Agree rules x y → (σ : ℕ) → allMet rules x σ ≡ allMet rules y σ
+met-cong : (rules : List (List Literal)) (x y : ℕ → Bool) → Agree rules x y → (σ : ℕ) → allMet rules x σ ≡ allMet rules y σ
 met-cong rules x y h σ = all-cong (met x σ) (met y σ) rules (λ rule m. any-cong (holds x σ) (holds y σ) rule (go rule m))
   where
     go : (rule : List Literal) → List·Memᴰ rule rules → (l : Literal) → List·Memᴰ l rule → holds x σ l ≡ holds y σ l
@@ -53,19 +46,11 @@ met-cong rules x y h σ = all-cong (met x σ) (met y σ) rules (λ rule m. any-c
 lowest-cong : (rules : List (List Literal)) (m : ℕ) (x y : ℕ → Bool) → Agree rules x y → lowest rules m x ≡ lowest rules m y
 lowest-cong rules m x y h = find-cong (allMet rules x) (allMet rules y) (run 0 (2 ^ m)) (met-cong rules x y h)
 
-pub permitted-same : (rules : List (List Literal)) (m : ℕ) (x y : List Belt)
-    → ((rule : List Literal) → List·Memᴰ rule rules → (e : BeltId) (w : Bool) → List·Memᴰ (OfBelt e w) rule → passes x (e .0) ≡ passes y (e .0))
+pub permitted-same : (rules : List (List Literal)) (m : ℕ) (x y : List Belt) → Agree rules (passes x) (passes y)
     → lowest rules m (passes x) ≡ lowest rules m (passes y)
 permitted-same rules m x y h = lowest-cong rules m (passes x) (passes y) h
 
 -- ---- the belts of a route
-
-eqb-sym : (m n : ℕ) → eqb m n ≡ eqb n m
-eqb-sym m n = go (test (eqb m n))
-  where
-    go : (eqb m n ≡ true) ⊎ (eqb m n ≡ false) → eqb m n ≡ eqb n m
-    go (inl t) = t ∙ sym (eq-eqb n m (sym (eqb-true m n t)))
-    go (inr t) = t ∙ sym (ne-eqb n m (λ q. eqb-false m n t (sym q)))
 
 passes-mem : (b : List ℕ) (es : List ℕ) (e : ℕ) → passes (map (beltAt b) es) e ≡ mem e es
 passes-mem b [] e = refl

@@ -11,9 +11,9 @@ pub mod Held
 pub mod Marks
 pub mod Holding
 pub mod Ahead
+pub mod Readings
 pub mod Stores
 pub mod Forms
-pub mod Readings
 pub mod Checked
 pub mod Solutions
 pub mod Claims

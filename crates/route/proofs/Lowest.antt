@@ -4,8 +4,9 @@
 --   find-run          `find` over a run finds it; find-is, find-none: so does a number, or none, that is it
 --   find-run-split    the first of n + m numbers is the first of the first n of them, or else that of the other m (otherwise)
 --   find-cong         two tests that agree find the same
---   halves, weight, all-modes
---                     a mode counts half of what it and the lower ones make up; it is so in 16 bits; ten make up 1,024
+--   halves, shifted, weight, all-modes
+--                     a mode counts half of what it and the lower ones make up; no bound above 2^10 cuts a power up to it, so
+--                     16 bits do not cut what a mode counts; ten modes make up 1,024
 --   settle-none       without modes the one setting is tested
 --   settle-both       else the settings with the highest mode off come first, then those with it on
 --   lowest-claim      THE CLAIM: `lowest` is the lowest setting that works; there is none exactly when the route is not permitted
@@ -16,7 +17,7 @@ use mathlib.Core.Logic.{_⊎_, inl, inr}
 use mathlib.Core.Bool.{Bool, true, false}
 use mathlib.Core.Option.{Option, none, some}
 use Prim.Native.Nat.{ℕ, zero, suc, _+_, _*_, _-_, _%_, _^_, _≤_, _<_}
-use mathlib.Core.List.{List, [], _∷_}
+use mathlib.Core.List.{List, [], _∷_, _++_}
 use native.Mathlib.Omega.{arith}
 use native.Mathlib.Nat.{eq-or-lt-of-le, pow-suc, one-mul, mod-eq-of-lt, lt-of-le-of-lt}
 use native.Mathlib.Numerals.{sub-one}
@@ -25,7 +26,7 @@ use lib.Dec.{leb, lit<}
 use borrow.Author.Tests.{leb-true, leb-false}
 use Rattle.plan.specs.Lists.{run}
 use Rattle.plan.specs.Plan.{planOf}
-use Rattle.plan.proofs.Lists.{test, never}
+use Rattle.plan.proofs.Lists.{test, never, run-split}
 use Rattle.route.specs.Permission.{passes, allMet, Permitted, orElse, find}
 use Rattle.route.specs.Claims.{LowestClaim}
 
@@ -44,8 +45,11 @@ pub halves : (m : ℕ) → 1 ≤ m → 2 ^ (m - 1) + 2 ^ (m - 1) ≡ 2 ^ m
 halves zero h = absurd (omega arith)
 halves (suc k) h = rw (sub-one, pow-suc) (omega arith)
 
+pub shifted : (k top : ℕ) → k ≤ 10 → 2 ^ 10 < top → (1 * 2 ^ k) % top ≡ 2 ^ k
+shifted k top h l = rw one-mul (mod-eq-of-lt (lt-of-le-of-lt (pow-mono {i = k} {j = 10} h) l))
+
 pub weight : (m : ℕ) → m ≤ 10 → (1 * 2 ^ (m - 1)) % 65536 ≡ 2 ^ (m - 1)
-weight m h = rw one-mul (mod-eq-of-lt (lt-of-le-of-lt (pow-mono {i = m - 1} {j = 10} (omega arith)) (lit< tt)))
+weight m h = shifted (m - 1) 65536 (omega arith) (lit< tt)
 
 pub all-modes : (m : ℕ) → m ≤ 10 → 2 ^ m ≤ 1024
 all-modes m h = pow-mono {i = m} {j = 10} h
@@ -101,22 +105,17 @@ module _ (f : ℕ → Bool) where
 
   -- ---- a run in two parts
 
-  pub find-run-split : (s n m : ℕ) → find f (run s (n + m)) ≡ otherwise (find f (run s n)) (find f (run (s + n) m))
-  find-run-split s zero m =
-      let e : 0 + m ≡ m = omega arith in
-      let z : s ≡ s + 0 = omega arith in
-      λ i. find f (run (z i) (e i))
-  find-run-split s (suc n) m =
-      let e : suc n + m ≡ suc (n + m) = omega arith in
-      let z : suc s + n ≡ s + suc n = omega arith in
-      ap (λ (k : ℕ). find f (run s k)) e
-      ∙ go (f s) (find-run-split (suc s) n m)
-      ∙ ap (λ (k : ℕ). otherwise (find f (run s (suc n))) (find f (run k m))) z
+  find-append : (xs ys : List ℕ) → find f (xs ++ ys) ≡ otherwise (find f xs) (find f ys)
+  find-append [] ys = refl
+  find-append (x ∷ xs) ys = go (f x) (find-append xs ys)
     where
-      go : (b : Bool) → find f (run (suc s) (n + m)) ≡ otherwise (find f (run (suc s) n)) (find f (run (suc s + n) m))
-          → orElse b s (find f (run (suc s) (n + m))) ≡ otherwise (orElse b s (find f (run (suc s) n))) (find f (run (suc s + n) m))
+      go : (b : Bool) → find f (xs ++ ys) ≡ otherwise (find f xs) (find f ys)
+          → orElse b x (find f (xs ++ ys)) ≡ otherwise (orElse b x (find f xs)) (find f ys)
       go true h = refl
       go false h = h
+
+  find-run-split : (s n m : ℕ) → find f (run s (n + m)) ≡ otherwise (find f (run s n)) (find f (run (s + n) m))
+  find-run-split s n m = ap (find f) (run-split s n m) ∙ find-append (run s n) (run (s + n) m)
 
   -- ---- the settings of the modes up to m, the higher ones being as s has them
 

@@ -3,6 +3,8 @@
 -- The names of a plan's belts rise, so exactly one belt has a given name:
 --   named-map        the belts with the names es, all of them belts, are the belts at these records
 --   names-belts      the belts with the names of a list of the plan's belts are that list
+--   named-in         the belts with any names are belts of the plan
+--   known-belts      numbers that all pass the test of being a belt's name are belt records
 -- Routes:
 --   connects-route   belts of the plan that connect s to t are a route from s to t
 --   route-connects   a route from s to t connects them
@@ -19,29 +21,24 @@ use mathlib.Core.Path.{_≡_, refl, sym, _∙_, ap}
 use mathlib.Core.Logic.{_⊎_, inl, inr}
 use mathlib.Core.Bool.{Bool, true, false}
 use Prim.Native.Nat.{ℕ, _+_, _*_, _-_, _≤_}
-use mathlib.Core.List.{List, [], _∷_, _++_, map, List·Memᴰ, List·Memᴰ·head, List·Memᴰ·tail, List·Memᴰ·not-nil, List·Memᴰ·cases-cons, Memᴰ·cast}
+use mathlib.Core.List.{List, [], _∷_, _++_, map, List·Memᴰ, List·Memᴰ·head, List·Memᴰ·tail, List·Memᴰ·not-nil, List·Memᴰ·cases-cons, Memᴰ·cast, map-map, map-id}
 use native.Mathlib.Omega.{arith}
 use lib.ListN.{length, replicate, length-map}
 use lib.Seq.{take-at}
 use lib.Dec.{eqb}
 use borrow.Author.Tests.{eqb-true, eq-eqb, ne-eqb}
 use Rattle.plan.specs.declared.read.BeltId.{BeltId}
-use Rattle.plan.specs.Lists.{kept, keep}
+use Rattle.plan.specs.Lists.{all, kept, keep, mem}
 use Rattle.plan.specs.Plan.{Belt, Plan, planOf, beltAt, namesOf, beltId}
 use Rattle.plan.specs.Reading.{Accepted, Bytes, IsBelt}
-use Rattle.plan.proofs.Lists.{both, and-is, in-map}
+use Rattle.plan.proofs.Lists.{both, and-is, all-in, keep-in, keep-none, in-map, joined-in}
 use Rattle.plan.proofs.Rising.{Rises, more}
-use Rattle.plan.proofs.Reading.{belt-in, belts-rise, belt-ends, belts-cost}
+use Rattle.plan.proofs.Reading.{belt-in, name-belt, belts-rise, belt-ends, belts-cost}
 use Rattle.route.specs.declared.path.Route.{Route}
 use Rattle.route.specs.Routes.{IsRoute, connects, cost, beltsNamed}
 use Rattle.route.specs.Values.{idsOf, packed, Known, routeIn}
 
 -- ---- the belt of a name
-
--- nothing is kept of a list of which nothing passes
-keep-none : {A : Type 0} (f : A → Bool) (xs : List A) → ((a : A) → List·Memᴰ a xs → f a ≡ false) → keep f xs ≡ []
-keep-none f [] h = refl
-keep-none f (x ∷ xs) h = ap (λ (t : Bool). kept t x (keep f xs)) (h x (List·Memᴰ·head refl)) ∙ keep-none f xs (λ a m. h a (List·Memᴰ·tail m))
 
 -- of belts whose names rise exactly one has the name of x
 one-named : (x : Belt) (xs : List Belt) → Rises (namesOf xs) → List·Memᴰ x xs → keep (λ (y : Belt). eqb (y .name) (x .name)) xs ≡ x ∷ []
@@ -76,6 +73,9 @@ module _ {b : List ℕ} (ok : Accepted b) where
   names-belts [] h = refl
   names-belts (x ∷ r) h = λ i. the-named x (h x (List·Memᴰ·head refl)) i ++ names-belts r (λ f m. h f (List·Memᴰ·tail m)) i
 
+  pub known-belts : (es : List ℕ) → all (λ (e : ℕ). mem e (namesOf (planOf b .belts))) es ≡ true → (e : ℕ) → List·Memᴰ e es → IsBelt b e
+  known-belts es h e m = name-belt ok e (all-in (λ (e : ℕ). mem e (namesOf (planOf b .belts))) es h m)
+
   -- ---- routes
 
   pub connects-route : (s t : ℕ) (r : List Belt) → ((e : Belt) → List·Memᴰ e r → List·Memᴰ e (planOf b .belts))
@@ -92,6 +92,11 @@ module _ {b : List ℕ} (ok : Accepted b) where
   pub route-cost : Bytes b → (s t : ℕ) (r : List Belt) → IsRoute (planOf b) s t r → cost r ≤ 65535 * length r
   route-cost bytes s t [] h = omega arith
   route-cost bytes s t (e ∷ r) h = omega (arith, belts-cost ok bytes e (h .0), route-cost bytes (e .leads) t r (h .2))
+
+pub named-in : (p : Plan) (es : List ℕ) (e : Belt) → List·Memᴰ e (beltsNamed p es) → List·Memᴰ e (p .belts)
+named-in p es e m =
+    let (n, i, k) = joined-in (λ (n : ℕ). keep (λ (x : Belt). eqb (x .name) n) (p .belts)) es m in
+    keep-in (λ (x : Belt). eqb (x .name) n) (p .belts) k .0
 
 pub route-connects : (p : Plan) (s t : ℕ) (r : List Belt) → IsRoute p s t r → connects s t r ≡ true
 route-connects p s t [] h = eq-eqb s t h
@@ -112,14 +117,11 @@ cost-append (e ∷ x) y = omega (arith, cost-append x y)
 
 -- ---- routes as the code holds them
 
-ids-back : (es : List ℕ) → map (λ (e : BeltId). e .0) (map beltId es) ≡ es
-ids-back [] = refl
-ids-back (e ∷ es) = ap (λ (l : List ℕ). e ∷ l) (ids-back es)
-
 pub ids-packed : (es : List ℕ) → length es ≤ 255 → idsOf (packed es) ≡ es
 ids-packed es h =
     ap (map (λ (e : BeltId). e .0)) (take-at (map beltId es) (replicate (255 - length es) (beltId 0)) (length es) (length-map es beltId))
-    ∙ ids-back es
+    ∙ map-map (λ (e : BeltId). e .0) beltId es
+    ∙ map-id es
 
 pub known-route : {b : List ℕ} → Accepted b → (r : Route) → Known b r → routeIn b r ≡ map (beltAt b) (idsOf r)
 known-route ok r k = named-map ok (idsOf r) (k .belts)

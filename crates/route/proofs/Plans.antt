@@ -6,15 +6,18 @@
 --   route-path      a route's belts are a path
 --   path-route      belts whose arcs are a path are a route
 --   arcs-belts      every list of arcs is that of some belts
+--   arc-var, mode-var
+--                   arcs and modes are variables of the instance
+--   names-variable  and so is what a literal of a rule names
 --
 -- Assumes nothing.
 use mathlib.Core.Path.{_≡_, refl, sym, _∙_, ap, subst}
 use Prim.Native.Nat.{ℕ, suc, _+_, _≤_, _<_}
-use mathlib.Core.List.{List, [], _∷_, map, List·Memᴰ, Memᴰ·append-left, Memᴰ·append-right, Memᴰ·cast}
+use mathlib.Core.List.{List, [], _∷_, map, List·Memᴰ, map-map, map-id, Memᴰ·append-left, Memᴰ·append-right, Memᴰ·cast}
 use native.Mathlib.Omega.{arith}
 use Rattle.plan.specs.declared.read.Literal.{Literal}
 use Rattle.plan.specs.declared.read.Literal.the-variants.{OfBelt, OfMode}
-use Rattle.plan.specs.Plan.{Belt, Plan, planOf}
+use Rattle.plan.specs.Plan.{Belt, Plan, planOf, beltAt}
 use Rattle.plan.specs.Reading.{Accepted}
 use Rattle.plan.proofs.Lists.{in-map, map-in, in-upto}
 use Rattle.plan.proofs.Reading.{belt-in, belt-name, belt-ends, literal-belt, literal-mode}
@@ -29,12 +32,8 @@ use Rattle.route.specs.Claims.{InstanceClaim, CostClaim}
 abbrev beltOf : Arc → Belt
 beltOf a = record { name = a .number; leaves = a .tail; leads = a .head; cost = a .weight }
 
-arcs-back : (q : List Arc) → q ≡ map arcOf (map beltOf q)
-arcs-back [] = refl
-arcs-back (a ∷ q) = ap (λ (r : List Arc). a ∷ r) (arcs-back q)
-
 pub arcs-belts : (q : List Arc) → (r : List Belt) × (q ≡ map arcOf r)
-arcs-belts q = (map beltOf q, arcs-back q)
+arcs-belts q = (map beltOf q, sym (map-map arcOf beltOf q ∙ map-id q))
 
 pub cost-weight : CostClaim
 cost-weight [] = refl
@@ -50,6 +49,24 @@ module _ (p : Plan) (t : ℕ) where
   path-route s (e ∷ r) h =
       let (x, m, q) = map-in arcOf (p .belts) (h .0) in
       (Memᴰ·cast (ap beltOf q) m, h .1, path-route (e .leads) r (h .2))
+
+-- ---- variables of the instance
+
+module _ (p : Plan) (s t : ℕ) where
+  pub arc-var : (a : Arc) → List·Memᴰ a (map arcOf (p .belts)) → List·Memᴰ (arcVar a) (variables (instanceOf p s t))
+  arc-var a m = Memᴰ·append-left (map free (modesOf (p .modes))) (in-map arcVar m)
+
+  pub mode-var : (n : ℕ) → List·Memᴰ n (modesOf (p .modes)) → List·Memᴰ (free n) (variables (instanceOf p s t))
+  mode-var n m = Memᴰ·append-right (map arcVar (map arcOf (p .belts))) (in-map free m)
+
+module _ {b : List ℕ} (ok : Accepted b) (s t : ℕ) where
+  pub names-variable : (rule : List Literal) → List·Memᴰ rule (planOf b .rules) → (x : Literal) → List·Memᴰ x rule
+      → List·Memᴰ (litOf x .var) (variables (instanceOf (planOf b) s t))
+  names-variable rule m (OfBelt e wanted) k =
+      arc-var (planOf b) s t (arcOf (beltAt b (e .0))) (in-map arcOf (belt-in ok (e .0) (literal-belt ok rule m e wanted k)))
+  names-variable rule m (OfMode n wanted) k =
+      let h = literal-mode ok rule m n wanted k in
+      mode-var (planOf b) s t (n .0) (in-upto 1 (suc (planOf b .modes)) (n .0) (h .0) (omega (arith, h .1)))
 
 -- ---- an accepted plan is an instance
 
@@ -82,21 +99,12 @@ module _ {b : List ℕ} (ok : Accepted b) where
   node : (j : ℕ) → 1 ≤ j → j ≤ planOf b .junctions → (s t : ℕ) → List·Memᴰ j (instanceOf (planOf b) s t .nodes)
   node j l u s t = in-upto 1 (suc (planOf b .junctions)) j l (omega arith)
 
-  -- what a literal of a rule names is a variable of the instance
-  names-variable : (s t : ℕ) (rule : List Literal) → List·Memᴰ rule (planOf b .rules) → (x : Literal) → List·Memᴰ x rule
-      → List·Memᴰ (litOf x .var) (variables (instanceOf (planOf b) s t))
-  names-variable s t rule m (OfBelt e wanted) k =
-      Memᴰ·append-left (map free (modesOf (planOf b .modes))) (in-map arcVar (in-map arcOf (belt-in ok (e .0) (literal-belt ok rule m e wanted k))))
-  names-variable s t rule m (OfMode n wanted) k =
-      let h = literal-mode ok rule m n wanted k in
-      Memᴰ·append-right (map arcVar arcs) (in-map free (in-upto 1 (suc (planOf b .modes)) (n .0) (h .0) (omega (arith, h .1))))
-
   over : (s t : ℕ) (α : Clause) → List·Memᴰ α (instanceOf (planOf b) s t .formula) → (l : Lit) → List·Memᴰ l α
       → List·Memᴰ (l .var) (variables (instanceOf (planOf b) s t))
   over s t α m l k =
       let (rule, n, q) = map-in (map litOf) (planOf b .rules) m in
       let (x, i, e) = map-in litOf rule (subst (List·Memᴰ l) q k) in
-      subst (λ (y : Lit). List·Memᴰ (y .var) (variables (instanceOf (planOf b) s t))) (sym e) (names-variable s t rule n x i)
+      subst (λ (y : Lit). List·Memᴰ (y .var) (variables (instanceOf (planOf b) s t))) (sym e) (names-variable ok s t rule n x i)
 
   instance-is : (s t : ℕ) → 1 ≤ s → s ≤ planOf b .junctions → 1 ≤ t → t ≤ planOf b .junctions → IsInstance (instanceOf (planOf b) s t)
   instance-is s t ls us lt ut = record {

@@ -3,9 +3,9 @@
 --   IsStep h i next e   record i of h is a step with the next index `next` and the belt e
 --   InForm h            h is in the form of a sheet, said by equations
 --   form-is, is-form    the same as `inForm`
---   field-low           a field of bytes is below 65,536
---   belts-many          there are as many belts on h as steps
---   sheet-length        a sheet has twelve bytes for each belt and twelve more
+--   length-belts        there are as many belts on h as steps; few-belts: at most 255 where h is in the form
+--   length-steps, length-sheet
+--                       there are twelve bytes for each step, and a sheet has twelve more
 --   reads-short         bytes that have a reading are 12 to 3,072 many
 --   round-trip          a sheet is in the form, and belts, cost and setting read back as written
 --   one-reading         bytes have at most one reading
@@ -15,16 +15,17 @@
 use mathlib.Core.Path.{_≡_, refl, sym, _∙_, ap, subst}
 use mathlib.Core.Bool.{Bool, true, _&&_}
 use Prim.Native.Nat.{ℕ, zero, suc, _+_, _*_, _-_, _/_, _%_, _≤_, _<_}
-use mathlib.Core.List.{List, [], _∷_, _++_, map, List·Memᴰ, List·Memᴰ·head, List·Memᴰ·tail}
+use mathlib.Core.List.{List, [], _∷_, _++_, map, List·Memᴰ}
 use native.Mathlib.Omega.{arith}
 use lib.ListN.{length, getD, drop, length-map, drop-of-length-le}
 use lib.Seq.{getD-append-add, drop-cons}
-use lib.Dec.{eqb, leb}
-use borrow.Author.Tests.{eqb-true, eq-eqb, leb-true, le-leb}
+use lib.Dec.{eqb}
+use borrow.Author.Tests.{eqb-true, eq-eqb}
 use Rattle.plan.specs.Lists.{all, joined, run, within}
 use Rattle.plan.specs.Records.{field, fieldBytes, recordOf}
 use Rattle.plan.specs.Reading.{Bytes}
-use Rattle.plan.proofs.Lists.{both, and-is, all-in, map-in, in-upto, upto-in}
+use Rattle.plan.proofs.Lists.{both, within-is, is-within, all-in, all-is, map-in, length-run, map-run, in-upto, upto-in}
+use Rattle.plan.proofs.Reading.{field-low}
 use Rattle.route.specs.Sheets.{nextOf, stepsFrom, headOf, sheetOf, Reads, steps, headFits, stepFits, places, inForm, beltsOn, costOn, settingOn}
 use Rattle.route.specs.Claims.{ReadingClaim, OneReadingClaim, RoundTripClaim}
 
@@ -73,10 +74,6 @@ is-step h i e s =
     && eq-eqb (field h i 4) 0 (s .fourth) k
     && eq-eqb (field h i 5) 0 (s .fifth) k
 
-all-of : (f : ℕ → Bool) (xs : List ℕ) → ((a : ℕ) → List·Memᴰ a xs → f a ≡ true) → all f xs ≡ true
-all-of f [] h = refl
-all-of f (x ∷ xs) h = and-is (f x) (all f xs) (h x (List·Memᴰ·head refl)) (all-of f xs (λ a m. h a (List·Memᴰ·tail m)))
-
 pub form-is : (h : List ℕ) → inForm h ≡ true → InForm h
 unfolding inForm
 form-is h t =
@@ -85,22 +82,22 @@ form-is h t =
     let a = both (size && whole && headFits h) (all (stepFits h) (places h)) t in
     let b = both (size && whole) (headFits h) (a .0) in
     let c = both size whole (b .0) in
-    let d = both (leb 12 (length h)) (leb (length h) 3072) (c .0) in
+    let d = within-is 12 (length h) 3072 (c .0) in
     let e = both (eqb (field h 0 0) 8) (eqb (field h 0 1) (nextOf (steps h) 0)) (b .1) in
     record {
-      least = leb-true 12 (length h) (d .0);
-      most = leb-true (length h) 3072 (d .1);
+      least = d .0;
+      most = d .1;
       whole = eqb-true (length h % 12) 0 (c .1);
       kind = eqb-true (field h 0 0) 8 (e .0);
       next = eqb-true (field h 0 1) (nextOf (steps h) 0) (e .1);
       step = λ i l u. step-is h i (all-in (stepFits h) (places h) (a .1) (in-upto 1 (steps h + 1) i l u));
     }
 
-pub is-form : (h : List ℕ) → InForm h → inForm h ≡ true
+is-form : (h : List ℕ) → InForm h → inForm h ≡ true
 unfolding inForm
 is-form h f =
-    let each = all-of (stepFits h) (places h) (λ i m. let u = upto-in 1 (steps h + 1) i m in is-step h i (field h i 2) (f .step i (u .0) (u .1))) in
-    λ k. (le-leb 12 (length h) (f .least) k && le-leb (length h) 3072 (f .most) k)
+    let each = all-is (stepFits h) (places h) (λ i m. let u = upto-in 1 (steps h + 1) i m in is-step h i (field h i 2) (f .step i (u .0) (u .1))) in
+    λ k. is-within 12 (length h) 3072 (f .least) (f .most) k
     && eq-eqb (length h % 12) 0 (f .whole) k
     && (eq-eqb (field h 0 0) 8 (f .kind) k && eq-eqb (field h 0 1) (nextOf (steps h) 0) (f .next) k)
     && each k
@@ -151,36 +148,26 @@ step-back n i (e ∷ es) (suc k) l =
     subst (λ (j : ℕ). IsStep (stepsFrom n i (e ∷ es)) (suc k) (nextOf n j) (getD es k 0)) q
     (step-next 5 (nextOf n i) e 0 0 0 (stepsFrom n (suc i) es) k (nextOf n (suc i + k)) (getD es k 0) below)
 
-steps-length : (n i : ℕ) (es : List ℕ) → length (stepsFrom n i es) ≡ 12 * length es
-steps-length n i [] = refl
-steps-length n i (e ∷ es) = omega (arith, steps-length n (suc i) es)
+pub length-steps : (n i : ℕ) (es : List ℕ) → length (stepsFrom n i es) ≡ 12 * length es
+length-steps n i [] = refl
+length-steps n i (e ∷ es) = omega (arith, length-steps n (suc i) es)
 
-pub sheet-length : (es : List ℕ) (c σ : ℕ) → length (sheetOf es c σ) ≡ 12 * length es + 12
-sheet-length es c σ = omega (arith, steps-length (length es) 1 es)
+pub length-sheet : (es : List ℕ) (c σ : ℕ) → length (sheetOf es c σ) ≡ 12 * length es + 12
+length-sheet es c σ = omega (arith, length-steps (length es) 1 es)
 
 pub reads-short : (h es : List ℕ) (c σ : ℕ) → Reads h es c σ → (12 ≤ length h) × (length h ≤ 3072)
 reads-short h es c σ r =
-    let e : length h ≡ 12 * length es + 12 = ap length (r .written) ∙ sheet-length es c σ in
+    let e : length h ≡ 12 * length es + 12 = ap length (r .written) ∙ length-sheet es c σ in
     (omega arith, omega (arith, r .short))
 
 -- ---- the round trip
-
--- a list, out of its elements by their places
-map-run : (f : ℕ → ℕ) (i : ℕ) (es : List ℕ) → ((k : ℕ) → k < length es → f (i + k) ≡ getD es k 0) → map f (run i (length es)) ≡ es
-map-run f i [] h = refl
-map-run f i (e ∷ es) h =
-    let z : i ≡ i + zero = omega arith in
-    let first : f i ≡ e = ap f z ∙ h zero (omega arith) in
-    let later : map f (run (suc i) (length es)) ≡ es =
-    map-run f (suc i) es (λ k l. let q : suc i + k ≡ i + suc k = omega arith in ap f q ∙ h (suc k) (omega arith)) in
-    λ j. first j ∷ later j
 
 module _ (es : List ℕ) (c σ : ℕ) where
   abbrev sheet : List ℕ
   sheet = sheetOf es c σ
 
   steps-back : steps sheet ≡ length es
-  steps-back = omega (arith, sheet-length es c σ)
+  steps-back = omega (arith, length-sheet es c σ)
 
   sheet-step : (k : ℕ) → k < length es → IsStep sheet (1 + k) (nextOf (length es) (1 + k)) (getD es k 0)
   sheet-step k l =
@@ -192,9 +179,8 @@ module _ (es : List ℕ) (c σ : ℕ) where
 
   belts-back : beltsOn sheet ≡ es
   belts-back =
-      let n : (steps sheet + 1) - 1 ≡ length es = omega (arith, steps-back) in
-      ap (λ (k : ℕ). map (λ (i : ℕ). field sheet i 2) (run 1 k)) n
-      ∙ map-run (λ (i : ℕ). field sheet i 2) 1 es (λ k l. sheet-step k l .belt)
+      sym (map-run (λ (i : ℕ). field sheet i 2) 1 ((steps sheet + 1) - 1) 0 es (omega (arith, steps-back)) (λ k l.
+      sym (sheet-step k (omega (arith, steps-back)) .belt)))
 
   cost-back : costOn sheet ≡ c
   cost-back =
@@ -211,9 +197,9 @@ module _ (es : List ℕ) (c σ : ℕ) where
 
   form-back : length es ≤ 255 → InForm sheet
   form-back short = record {
-    least = omega (arith, sheet-length es c σ);
-    most = omega (arith, sheet-length es c σ);
-    whole = omega (arith, sheet-length es c σ);
+    least = omega (arith, length-sheet es c σ);
+    most = omega (arith, length-sheet es c σ);
+    whole = omega (arith, length-sheet es c σ);
     kind = refl;
     next = bytes-back (nextOf (length es) 0) ∙ ap (λ (n : ℕ). nextOf n 0) (sym steps-back);
     step = step;
@@ -263,17 +249,13 @@ middle x y z v w = omega arith
 bottom : (x y z : ℕ) → z < 65536 → (x * 4294967296 + y * 65536 + z) % 65536 ≡ z
 bottom x y z w = omega arith
 
-length-run : (i n : ℕ) → length (run i n) ≡ n
-length-run i zero = refl
-length-run i (suc n) = ap suc (length-run (suc i) n)
+pub length-belts : (h : List ℕ) → length (beltsOn h) ≡ steps h
+length-belts h = omega (arith, length-map (places h) (λ (i : ℕ). field h i 2), length-run 1 ((steps h + 1) - 1))
 
-pub belts-many : (h : List ℕ) → length (beltsOn h) ≡ steps h
-belts-many h = omega (arith, length-map (places h) (λ (i : ℕ). field h i 2), length-run 1 ((steps h + 1) - 1))
+pub few-belts : (h : List ℕ) → InForm h → length (beltsOn h) ≤ 255
+few-belts h f = omega (arith, length-belts h, f .most)
 
 module _ (h : List ℕ) (bytes : Bytes h) where
-  pub field-low : (i f : ℕ) → field h i f < 65536
-  field-low i f = omega (arith, bytes (12 * i + 2 * f), bytes (12 * i + 2 * f + 1))
-
   -- n fields of record i, from field f on
   cut-fields : (i f n : ℕ) → 12 * i + 2 * (f + n) ≤ length h
       → drop (12 * i + 2 * f) h ≡ joined fieldBytes (map (field h i) (run f n)) ++ drop (12 * i + 2 * (f + n)) h
@@ -324,10 +306,10 @@ module _ (h : List ℕ) (bytes : Bytes h) where
       let x : ℕ = field h 0 2 in
       let y : ℕ = field h 0 3 in
       let z : ℕ = field h 0 4 in
-      let c2 = top x y z (field-low 0 3) (field-low 0 4) in
-      let c3 = middle x y z (field-low 0 3) (field-low 0 4) in
-      let c4 = bottom x y z (field-low 0 4) in
-      let size = belts-many h in
+      let c2 = top x y z (field-low h bytes 0 3) (field-low h bytes 0 4) in
+      let c3 = middle x y z (field-low h bytes 0 3) (field-low h bytes 0 4) in
+      let c4 = bottom x y z (field-low h bytes 0 4) in
+      let size = length-belts h in
       let e : n ≡ (n + 1) - 1 = omega arith in
       let belts : map (λ (k : ℕ). field h k 2) (run 1 n) ≡ beltsOn h = ap (λ (m : ℕ). map (λ (k : ℕ). field h k 2) (run 1 m)) e in
       let last = cut-steps n n 1 (omega (arith, f .least, f .whole)) (λ k l u. f .step k l (omega arith)) in
@@ -338,14 +320,14 @@ module _ (h : List ℕ) (bytes : Bytes h) where
   reads : InForm h → Reads h (beltsOn h) (costOn h) (settingOn h)
   reads f = record {
     written = written f;
-    short = omega (arith, belts-many h, f .most);
+    short = few-belts h f;
     indices = index-low;
-    cost-fits = omega (arith, field-low 0 2, field-low 0 3, field-low 0 4);
-    setting-fits = field-low 0 5;
+    cost-fits = omega (arith, field-low h bytes 0 2, field-low h bytes 0 3, field-low h bytes 0 4);
+    setting-fits = field-low h bytes 0 5;
   }
     where
       index-low : (e : ℕ) → List·Memᴰ e (beltsOn h) → e < 65536
-      index-low e m = let (i, k, q) = map-in (λ (i : ℕ). field h i 2) (places h) m in omega (arith, field-low i 2, q)
+      index-low e m = let (i, k, q) = map-in (λ (i : ℕ). field h i 2) (places h) m in omega (arith, field-low h bytes i 2, q)
 
 pub reading-claim : ReadingClaim
 reading-claim h bytes = (λ t. reads h bytes (form-is h t), λ r. round-trip h (beltsOn h) (costOn h) (settingOn h) r .0)

@@ -10,18 +10,18 @@
 use mathlib.Core.Path.{_≡_, refl, sym, _∙_, ap, subst}
 use mathlib.Core.Bool.{Bool, true, false, not, _&&_}
 use Prim.Native.Nat.{ℕ, _^_, _≤_, _<_}
-use mathlib.Core.List.{List, [], _∷_, map, List·Memᴰ}
+use mathlib.Core.List.{List, map, List·Memᴰ, map-map}
 use native.Mathlib.Omega.{arith}
 use lib.ListN.{length, length-map}
-use lib.Pow.{pow-mono}
 use lib.Dec.{eqb, ltb}
 use borrow.Author.Tests.{eqb-true, eq-eqb, ltb-true, lt-ltb, not-false}
-use Rattle.plan.specs.Lists.{all, mem, keep}
-use Rattle.plan.specs.Plan.{Belt, Plan, planOf, beltAt, namesOf}
+use Rattle.plan.specs.Lists.{all, mem}
+use Rattle.plan.specs.Plan.{Belt, Plan, planOf, namesOf}
 use Rattle.plan.specs.Claims.{Unbroken}
-use Rattle.plan.specs.Reading.{Accepted, Bytes, IsBelt}
-use Rattle.plan.proofs.Lists.{and-is, both, all-in, all-is, in-map, map-in, in-mem, joined-in, keep-in}
-use Rattle.plan.proofs.Reading.{plan-sizes, belt-of, belt-low, name-belt}
+use Rattle.plan.specs.Reading.{Accepted, Bytes}
+use Rattle.plan.proofs.Lists.{both, and-is, all-is, in-map, map-in, in-mem}
+use Rattle.plan.proofs.Naming.{names-back}
+use Rattle.plan.proofs.Reading.{plan-sizes, belt-of, belt-low}
 use Rattle.route.specs.Lcsp.{Arc, weightOf, FeasibleBy}
 use Rattle.route.specs.Routes.{IsRoute, connects, cost, beltsNamed}
 use Rattle.route.specs.Permission.{passes, allMet}
@@ -31,17 +31,17 @@ use Rattle.route.specs.Refusals.{Case, broken11, broken12, broken13, bro
 use Rattle.route.specs.Claims.{ReadsSolved, CheckClaim, WrittenClaim}
 use Rattle.route.proofs.Plans.{arcs-belts, cost-weight}
 use Rattle.route.proofs.Feasible.{joint-feasible, feasible-joint}
-use Rattle.route.proofs.Named.{named-map, names-belts, connects-route, route-connects, route-belts, route-length, route-cost}
-use Rattle.route.proofs.Lowest.{lowest-claim}
+use Rattle.route.proofs.Named.{named-map, names-belts, named-in, known-belts, connects-route, route-connects, route-belts, route-length, route-cost}
+use Rattle.route.proofs.Lowest.{all-modes, lowest-claim}
 use Rattle.route.proofs.Readings.{round-trip, reading-claim}
 use Rattle.route.proofs.Checked.{Unrefused, zero-unrefused, unrefused-zero, query-accepted, ends-query, inside}
 
 -- ---- line 11
 
-pub record FineSheet (k : Case) : Type 0 where
-  pub form : inForm (k .sheet) ≡ true
-  pub known : all (λ (e : ℕ). mem e (namesOf (planOf (k .plan) .belts))) (beltsOn (k .sheet)) ≡ true
-  pub low : ltb (settingOn (k .sheet)) (2 ^ planOf (k .plan) .modes) ≡ true
+record FineSheet (k : Case) : Type 0 where
+  form : inForm (k .sheet) ≡ true
+  known : all (λ (e : ℕ). mem e (namesOf (planOf (k .plan) .belts))) (beltsOn (k .sheet)) ≡ true
+  low : ltb (settingOn (k .sheet)) (2 ^ planOf (k .plan) .modes) ≡ true
 
 module _ (k : Case) where
   abbrev formed : Bool
@@ -53,32 +53,21 @@ module _ (k : Case) where
   abbrev lowSet : Bool
   lowSet = ltb (settingOn (k .sheet)) (2 ^ planOf (k .plan) .modes)
 
-  pub fine-sheet : broken11 k ≡ false → FineSheet k
+  fine-sheet : broken11 k ≡ false → FineSheet k
   unfolding broken11
   fine-sheet e =
       let h = both (formed && belted) lowSet (not-false (formed && belted && lowSet) e) in
       let g = both formed belted (h .0) in
       record { form = g .0; known = g .1; low = h .1 }
 
-  pub sheet-fine : FineSheet k → broken11 k ≡ false
+  sheet-fine : FineSheet k → broken11 k ≡ false
   unfolding broken11
   sheet-fine f = ap not (and-is (formed && belted) lowSet (and-is formed belted (f .form) (f .known)) (f .low))
 
--- ---- belts and arcs
+-- ---- the numbers of arcs are the names of belts
 
 numbers-names : (r : List Belt) → map (λ (a : Arc). a .number) (map arcOf r) ≡ namesOf r
-numbers-names [] = refl
-numbers-names (e ∷ r) = ap (λ (l : List ℕ). e .name ∷ l) (numbers-names r)
-
-names-at : (b es : List ℕ) → namesOf (map (beltAt b) es) ≡ es
-names-at b [] = refl
-names-at b (e ∷ es) = ap (λ (l : List ℕ). e ∷ l) (names-at b es)
-
--- belts by their names are belts of the plan
-named-in : (p : Plan) (es : List ℕ) (e : Belt) → List·Memᴰ e (beltsNamed p es) → List·Memᴰ e (p .belts)
-named-in p es e m =
-    let (n, i, k) = joined-in (λ (n : ℕ). keep (λ (x : Belt). eqb (x .name) n) (p .belts)) es m in
-    keep-in (λ (x : Belt). eqb (x .name) n) (p .belts) k .0
+numbers-names r = map-map (λ (a : Arc). a .number) arcOf r
 
 -- ---- an accepted sheet reads as a feasible solution
 
@@ -92,9 +81,6 @@ module _ (k : Case) (bytes : Bytes (k .sheet)) (u : Unrefused k) where
   abbrev es : List ℕ
   es = beltsOn (k .sheet)
 
-  are-belts : (e : ℕ) → List·Memᴰ e es → IsBelt (k .plan) e
-  are-belts e m = name-belt ok e (all-in (λ (e : ℕ). mem e (namesOf (planOf (k .plan) .belts))) es (fine .known) m)
-
   route : IsRoute (planOf (k .plan)) (k .s) (k .t) (routeOn k)
   unfolding broken12
   route =
@@ -102,7 +88,7 @@ module _ (k : Case) (bytes : Bytes (k .sheet)) (u : Unrefused k) where
       (not-false (connects (k .s) (k .t) (routeOn k)) (u .fine-12))
 
   names : namesOf (routeOn k) ≡ es
-  names = ap namesOf (named-map ok es are-belts) ∙ names-at (k .plan) es
+  names = ap namesOf (named-map ok es (known-belts ok es (fine .known))) ∙ names-back (k .plan) es
 
   sum : cost (routeOn k) ≡ costOn (k .sheet)
   unfolding broken13
@@ -212,7 +198,7 @@ module _ {b : List ℕ} (good : Accepted b) (plan-bytes : Bytes b) (s t : ℕ) (
       omega (arith, belt-low good (f .name) is .2)
 
   tiny : σ < 65536
-  tiny = let h : 2 ^ planOf b .modes ≤ 2 ^ 10 = pow-mono (plan-sizes good .2) in omega (arith, low)
+  tiny = omega (arith, low, all-modes (planOf b .modes) (plan-sizes good .2))
 
   reads-written : Reads (sheetOf (namesOf way) (cost way) σ) (namesOf way) (cost way) σ
   reads-written = record {

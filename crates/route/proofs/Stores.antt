@@ -2,7 +2,6 @@
 --
 --   stored-field        the two bytes of a field, stored one by one, are placed
 --   behind              what is placed behind what was placed is placed with it
---   firstIds k belts    the names of the first k of an array of belts; length-first: there are k
 --   no-steps            the steps of no belts are placed already
 --   length-stepped      the steps of the first belts placed, the buffer is as long as before
 --   stepped             one record more behind them, and the steps of one belt more are placed
@@ -12,19 +11,22 @@
 --
 -- Assumes nothing.
 use mathlib.Core.Path.{_≡_, refl, sym, _∙_, ap}
-use Prim.Native.Nat.{ℕ, zero, suc, _+_, _*_, _-_, _/_, _%_, _≤_, _<_}
+use Prim.Native.Nat.{ℕ, suc, _+_, _*_, _/_, _%_, _≤_, _<_}
 use mathlib.Core.List.{List, [], _∷_, _++_, map}
 use native.Mathlib.Omega.{arith}
 use native.Mathlib.Nat.{add-suc, suc-add, add-zero}
 use native.Mathlib.Numerals.{add-one}
-use lib.ListN.{length, getD, take, drop, set, replicate, length-append, length-map}
-use lib.Seq.{sets, sets-eq, length-sets, length-take-le, take-suc}
+use lib.ListN.{length, getD, drop, set, replicate, length-append}
+use lib.Seq.{sets, sets-eq, length-sets}
 use Rattle.plan.specs.declared.read.BeltId.{BeltId}
 use Rattle.plan.specs.Records.{fieldBytes, recordOf}
 use Rattle.plan.specs.Plan.{beltId}
+use Rattle.plan.proofs.Places.{ids-sets}
 use Rattle.route.specs.Sheets.{nextOf, headOf, stepsFrom, sheetOf}
 use Rattle.route.specs.Values.{packed}
 use Rattle.route.specs.Inner.{placed}
+use Rattle.route.proofs.Held.{firstIds, length-first, first-more}
+use Rattle.route.proofs.Readings.{length-steps, length-sheet}
 
 -- ---- placing
 
@@ -56,16 +58,6 @@ behind l at vs ws mid out j p q e h = q ∙ ap (λ (m : List ℕ). placed m j ws
 
 -- ---- steps
 
-abbrev pub firstIds : ℕ → List BeltId → List ℕ
-firstIds k belts = map (λ (e : BeltId). e .0) (take k belts)
-
-pub length-first : (k : ℕ) (belts : List BeltId) → k ≤ length belts → length (firstIds k belts) ≡ k
-length-first k belts h = length-map (take k belts) (λ (e : BeltId). e .0) ∙ length-take-le k belts h
-
-length-steps : (n i : ℕ) (es : List ℕ) → length (stepsFrom n i es) ≡ 12 * length es
-length-steps n i [] = refl
-length-steps n i (e ∷ es) = let below = length-steps n (suc i) es in omega arith
-
 steps-append : (n i : ℕ) (es : List ℕ) (e : ℕ) → stepsFrom n i (es ++ e ∷ []) ≡ stepsFrom n i es ++ recordOf 5 (nextOf n (i + length es)) e 0 0 0
 steps-append n i [] e = ap (λ (k : ℕ). recordOf 5 (nextOf n k) e 0 0 0) (sym (add-zero i))
 steps-append n i (x ∷ es) e =
@@ -73,18 +65,12 @@ steps-append n i (x ∷ es) e =
     (steps-append n (suc i) es e
     ∙ ap (λ (k : ℕ). stepsFrom n (suc i) es ++ recordOf 5 (nextOf n k) e 0 0 0) (suc-add i (length es) ∙ sym (add-suc i (length es))))
 
-map-append : {A B : Type 0} (f : A → B) (xs ys : List A) → map f (xs ++ ys) ≡ map f xs ++ map f ys
-map-append f [] ys = refl
-map-append f (x ∷ xs) ys = ap (λ (r : List _). f x ∷ r) (map-append f xs ys)
-
 steps-more : (n k : ℕ) (belts : List BeltId) (d : BeltId) → k < length belts
     → stepsFrom n 1 (firstIds (k + 1) belts) ≡ stepsFrom n 1 (firstIds k belts) ++ recordOf 5 (nextOf n (k + 1)) (getD belts k d .0) 0 0 0
 steps-more n k belts d h =
     let size = length-first k belts (omega arith) in
     let e : 1 + length (firstIds k belts) ≡ k + 1 = omega arith in
-    ap (λ (m : ℕ). stepsFrom n 1 (firstIds m belts)) (add-one k)
-    ∙ ap (λ (l : List BeltId). stepsFrom n 1 (map (λ (e : BeltId). e .0) l)) (take-suc belts k d h)
-    ∙ ap (stepsFrom n 1) (map-append (λ (e : BeltId). e .0) (take k belts) (getD belts k d ∷ []))
+    ap (stepsFrom n 1) (first-more k belts d h)
     ∙ steps-append n 1 (firstIds k belts) (getD belts k d .0)
     ∙ ap (λ (m : ℕ). stepsFrom n 1 (firstIds k belts) ++ recordOf 5 (nextOf n m) (getD belts k d .0) 0 0 0) e
 
@@ -116,16 +102,13 @@ pub headed : (l out : List ℕ) (n next c σ : ℕ) → next ≡ nextOf n 0
     → out ≡ placed l 0 (recordOf 8 next (c / 4294967296) (c / 65536 % 65536) (c % 65536) σ) → out ≡ placed l 0 (headOf n c σ)
 headed l out n next c σ e q = q ∙ ap (λ (x : ℕ). placed l 0 (recordOf 8 x (c / 4294967296) (c / 65536 % 65536) (c % 65536) σ)) e
 
-length-sheet : (es : List ℕ) (n c σ : ℕ) → n ≡ length es → 12 * n + 12 ≡ length (sheetOf es c σ)
-length-sheet es n c σ e = let steps = length-steps (length es) 1 es in omega arith
-
 pub written : (l es mid out : List ℕ) (n c σ : ℕ) → length es ≡ n → 12 * n + 12 ≤ length l
     → mid ≡ placed l 0 (headOf n c σ) → out ≡ placed mid 12 (stepsFrom n 1 es)
     → (12 * n + 12 ≡ length (sheetOf es c σ)) × (out ≡ sheetOf es c σ ++ drop (12 * n + 12) l)
 written l es mid out n c σ e h p q =
     let steps = length-steps n 1 es in
     let size : 0 + length (headOf n c σ ++ stepsFrom n 1 es) ≡ 12 * n + 12 = omega arith in (
-      length-sheet es n c σ (sym e),
+      omega (arith, length-sheet es c σ),
       behind l 0 (headOf n c σ) (stepsFrom n 1 es) mid out 12 p q refl (omega arith)
           ∙ ap (λ (m : ℕ). headOf n c σ ++ stepsFrom n 1 es ++ drop m l) size
           ∙ ap (λ (m : ℕ). headOf m c σ ++ stepsFrom m 1 es ++ drop (12 * n + 12) l) (sym e),
@@ -133,19 +116,5 @@ written l es mid out n c σ e h p q =
 
 -- ---- the array of a route
 
-sets-past : {A : Type 0} (x : A) (l : List A) (i : ℕ) (vs : List A) → sets (x ∷ l) (suc i) vs ≡ x ∷ sets l i vs
-sets-past x l i [] = refl
-sets-past x l i (v ∷ vs) = sets-past x (set l i v) (suc i) vs
-
-filled : {A : Type 0} (n : ℕ) (a : A) (vs : List A) → length vs ≤ n → sets (replicate n a) 0 vs ≡ vs ++ replicate (n - length vs) a
-filled n a [] h = let e : n ≡ n - 0 = omega arith in ap (λ (m : ℕ). replicate m a) e
-filled zero a (v ∷ vs) h = absurd (omega arith)
-filled (suc n) a (v ∷ vs) h =
-    let e : n - length vs ≡ suc n - suc (length vs) = omega arith in
-    sets-past v (replicate n a) 0 vs
-    ∙ ap (λ (r : List _). v ∷ r) (filled n a vs (omega arith) ∙ ap (λ (m : ℕ). vs ++ replicate m a) e)
-
 pub packed-sets : (es : List ℕ) → length es ≤ 255 → sets (replicate 255 (beltId 0)) 0 (map beltId es) ≡ packed es .belts
-packed-sets es h =
-    let size = length-map es beltId in
-    filled 255 (beltId 0) (map beltId es) (omega arith) ∙ ap (λ (m : ℕ). map beltId es ++ replicate (255 - m) (beltId 0)) size
+packed-sets = ids-sets 255

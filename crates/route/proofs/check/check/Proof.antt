@@ -1,9 +1,7 @@
 -- `check::check` meets its contract: line by line, in the order of the table. Assumes nothing.
 use mathlib.Core.Path.{_≡_, sym, _∙_, ap}
 use mathlib.Core.Bool.{true, false}
-use Prim.Native.Nat.{ℕ, _≤_}
 use native.Mathlib.Omega.{arith}
-use mathlib.Core.List.{List}
 use lib.ListN.{length}
 use borrow.Author.Needs.{needs}
 use borrow.Author.Tests.{not-true, not-false}
@@ -13,7 +11,7 @@ use Rattle.route.specs.Refusals.{Case, broken8}
 use Rattle.route.specs.Values.{idsOf, caseOf}
 use Rattle.route.specs.Sheets.{inForm, beltsOn}
 use Rattle.route.proofs.Named.{ids-packed}
-use Rattle.route.proofs.Readings.{form-is, belts-many}
+use Rattle.route.proofs.Readings.{form-is, few-belts}
 use Rattle.route.proofs.Checked.{refused-plan, refused-8, no-form, said-refused, outside-s, outside-t, not-outside, ends-inside}
 use Rattle.route.proofs.check.check.Statement.{statement}
 use Rattle.route.proofs.check.check.Tie as tie
@@ -77,10 +75,6 @@ returns-4 c =
     let this = sym (c .before .in-form .ensures) ∙ not-true (c .before .in-form .result) (c .if4 .taken) in
     sym (no-form (case start) (accepted past) (ends at) this)
 
--- a sheet in the form has at most 255 steps
-few-steps : (h : List ℕ) → inForm h ≡ true → length (beltsOn h) ≤ 255
-few-steps h e = omega (arith, belts-many h, form-is h e .most)
-
 -- past the test of the form
 form : (c : tie.Else4) → inForm (case (c .before .before .before .before .before .before .before .before .before .before .before) .sheet) ≡ true
 form c = sym (c .before .in-form .ensures) ∙ not-false (c .before .in-form .result) (c .if4 .left)
@@ -95,7 +89,7 @@ check-said-requires c κs =
     let start = past .before .before .before .before .before in
     let within = ends-inside (case start) (ends at) in
     let count : c .read .result .route .count ≡ length (beltsOn (start .args .h .now)) = ap (λ (v : Sheet). v .route .count) (c .read .ensures) in
-    (accepted past, within .0, within .1, omega (arith, few-steps (start .args .h .now) (form (c .before))))
+    (accepted past, within .0, within .1, omega (arith, few-belts (start .args .h .now) (form-is (start .args .h .now) (form (c .before)))))
 
 returns-5 : tie.Need-returns-5
 returns-5 c =
@@ -105,7 +99,7 @@ returns-5 c =
     let h = start .args .h .now in
     let formed = form (c .before .before) in
     let read = c .before .read .ensures in
-    let ids = ap (λ (v : Sheet). idsOf (v .route)) read ∙ ids-packed (beltsOn h) (few-steps h formed) in
+    let ids = ap (λ (v : Sheet). idsOf (v .route)) read ∙ ids-packed (beltsOn h) (few-belts h (form-is h formed)) in
     c .check-said .ensures
     ∙ sym (said-refused (case start) (accepted past) (ends at) (c .before .read .result) formed ids (ap (λ (v : Sheet). v .cost) read) (ap (λ (v : Sheet). v .setting) read))
 

@@ -7,12 +7,11 @@ use borrow.Author.Needs.{needs}
 use borrow.Author.Tests.{eq-eqb, ne-eqb, not-true, not-false}
 use Rattle.plan.specs.Lists.{all, mem}
 use Rattle.plan.specs.Plan.{planOf, namesOf}
-use Rattle.plan.proofs.Lists.{all-in}
-use Rattle.plan.proofs.Reading.{name-belt}
 use Rattle.route.specs.Routes.{connects, cost}
 use Rattle.route.specs.Permission.{passes, allMet}
 use Rattle.route.specs.Values.{idsOf, Known, routeIn}
 use Rattle.route.specs.Inner.{sheetBy}
+use Rattle.route.proofs.Named.{known-belts}
 use Rattle.route.proofs.check.check_said.Statement.{statement}
 use Rattle.route.proofs.check.check_said.Tie as tie
 
@@ -53,7 +52,7 @@ known c =
     let start = c .before .before .before .before in
     record {
       few = start .pre .3;
-      belts = λ e m. name-belt (start .pre .0) e (all-in (λ (e : ℕ). mem e (namesOf (planOf (start .args .p .now) .belts))) (idsOf (start .args .said .route)) (are-known c) m);
+      belts = known-belts (start .pre .0) (idsOf (start .args .said .route)) (are-known c);
     }
 
 returns-2 : tie.Need-returns-2

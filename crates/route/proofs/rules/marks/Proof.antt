@@ -5,26 +5,23 @@ use Prim.Native.Nat.{ℕ, _-_, _≤_, _<_}
 use mathlib.Core.List.{List}
 use native.Mathlib.Omega.{arith}
 use borrow.Author.Needs.{needs}
-use lib.ListN.{length, getD, set, length-map}
-use Rattle.plan.specs.declared.read.BeltId.{BeltId}
+use lib.ListN.{length, getD, set}
 use Rattle.plan.specs.Plan.{beltId}
 use Rattle.route.specs.Values.{marksOf}
-use Rattle.route.proofs.Marks.{idsTo, marks-none, marks-more, ids-next, id-in}
+use Rattle.route.proofs.Held.{places, firstIds, first-more, ids-at}
+use Rattle.route.proofs.Marks.{marks-none, marks-more}
 use Rattle.route.proofs.rules.marks.Statement.{statement}
 use Rattle.route.proofs.rules.marks.Tie as tie
 
 abbrev Inv-loop : tie.InvT-loop
-Inv-loop route belts on₀ k₀ on k = (length (route .belts) ≡ 255) × (k ≤ route .count) × (on ≡ marksOf (idsTo k (route .belts)))
+Inv-loop route belts on₀ k₀ on k = (length (route .belts) ≡ 255) × (k ≤ route .count) × (on ≡ marksOf (firstIds k (route .belts)))
 
 abbrev μ-loop : tie.MeasureT-loop
 μ-loop route belts on₀ k₀ on k = route .count - k
 
 -- that the array has 255 elements is told by holding it (`good`)
 loop-holds : tie.Need-loop-holds Inv-loop μ-loop
-loop-holds c =
-    let route = c .before .args .route in
-    let size = sym (length-map {B = ℕ × Unit {0}} (route .belts) (λ (e : BeltId). (e .0, tt))) ∙ c .before .good .0 .1 .1 .1 .0 .1 .0 .1 in
-    (size, omega arith, marks-none)
+loop-holds c = (places (c .before .args .route) (c .before .good .0 .1 .1 .1 .0 .1 .0 .1), omega arith, marks-none)
 
 mul-belt : tie.Need-mul-belt Inv-loop μ-loop
 mul-belt c = search needs
@@ -43,7 +40,7 @@ low c =
     let route = start .args .route in
     let loop = c .before .before .before .before .loop in
     let all : route .count ≤ length (route .belts) = omega (arith, start .pre .few, loop .inv .0) in
-    start .pre .low _ (id-in (route .belts) (route .count) (loop .k) (beltId 0) (c .before .before .if1 .taken) all)
+    start .pre .low _ (ids-at route all (loop .k) (c .before .before .if1 .taken))
 
 array-write-on : tie.Need-array-write-on Inv-loop μ-loop
 array-write-on c = low c
@@ -65,8 +62,8 @@ loop-again c =
       loop .inv .0,
       omega (arith, c .before .before .if1 .taken),
       ap (λ (l : List Bool). set l e true) (loop .inv .2)
-          ∙ marks-more (idsTo k belts) e (low c)
-          ∙ ap marksOf (sym (ids-next belts k (beltId 0) fits)),
+          ∙ marks-more (firstIds k belts) e (low c)
+          ∙ ap marksOf (sym (first-more k belts (beltId 0) fits)),
     )
 
 returns : tie.Need-returns Inv-loop μ-loop
@@ -74,7 +71,7 @@ returns c =
     let loop = c .before .before .loop in
     let route = c .before .before .before .before .args .route in
     let e : loop .k ≡ route .count = omega (arith, loop .inv .1, c .if1 .left) in
-    loop .inv .2 ∙ ap (λ (k : ℕ). marksOf (idsTo k (route .belts))) e
+    loop .inv .2 ∙ ap (λ (k : ℕ). marksOf (firstIds k (route .belts))) e
 
 pub marks-spec : {M : Type 1} → statement M
 marks-spec =

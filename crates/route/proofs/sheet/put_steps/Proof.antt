@@ -1,12 +1,13 @@
 -- `route::sheet::put_steps` meets its contract: what is written are the steps of the belts so far. Assumes nothing.
-use mathlib.Core.Path.{_≡_, sym, _∙_, ap}
+use mathlib.Core.Path.{_≡_, _∙_, ap}
 use Prim.Native.Nat.{ℕ, _-_, _≤_, _<_}
 use native.Mathlib.Omega.{arith}
-use lib.ListN.{length, length-map}
+use lib.ListN.{length}
 use Rattle.plan.specs.Plan.{beltId}
 use Rattle.route.specs.Sheets.{stepsFrom}
 use Rattle.route.specs.Inner.{placed}
-use Rattle.route.proofs.Stores.{firstIds, no-steps, length-stepped, stepped}
+use Rattle.route.proofs.Held.{places, firstIds}
+use Rattle.route.proofs.Stores.{no-steps, length-stepped, stepped}
 use Rattle.route.proofs.sheet.put_steps.Statement.{statement}
 use Rattle.route.proofs.sheet.put_steps.Tie as tie
 
@@ -23,7 +24,7 @@ loop-holds c =
 
 -- owning a route tells that its array has 255 places
 full : (c : tie.Start Inv-loop μ-loop) → length (c .args .route .belts) ≡ 255
-full c = sym (length-map (c .args .route .belts) _) ∙ c .good .1 .0 .1 .1 .1 .0 .1 .0 .1
+full c = places (c .args .route) (c .good .1 .0 .1 .1 .1 .0 .1 .0 .1)
 
 -- the buffer is as long as it was
 same : (c : tie.At-loop Inv-loop μ-loop) → length (c .loop .out) ≡ length (c .before .before .before .args .out .now)

@@ -1,6 +1,6 @@
 -- `route::sheet::read` meets its contract: a part of the sheet from each callee. Assumes nothing.
 use native.Mathlib.Omega.{arith}
-use Rattle.route.proofs.Forms.{form-size}
+use Rattle.route.proofs.Readings.{form-is}
 use borrow.Author.Needs.{needs}
 use Rattle.route.proofs.sheet.read.Statement.{statement}
 use Rattle.route.proofs.sheet.read.Tie as tie
@@ -9,10 +9,10 @@ read-route-requires : tie.Need-read-route-requires
 read-route-requires c κs = search needs
 
 read-cost-requires : tie.Need-read-cost-requires
-read-cost-requires c κs = form-size _ (c .before .before .pre) .0
+read-cost-requires c κs = form-is _ (c .before .before .pre) .least
 
 field-requires : tie.Need-field-requires
-field-requires c κs = (omega arith, form-size _ (c .before .before .before .pre) .0)
+field-requires c κs = (omega arith, form-is _ (c .before .before .before .pre) .least)
 
 returns : tie.Need-returns
 returns c = λ i. record { route = c .before .before .read-route .ensures i; cost = c .before .read-cost .ensures i; setting = c .field .ensures i }

@@ -7,8 +7,9 @@ use lib.ListN.{length}
 use lib.Seq.{sets}
 use Rattle.route.specs.Sheets.{steps, beltsOn}
 use Rattle.route.specs.Values.{packed}
+use Rattle.route.proofs.Readings.{form-is, length-belts, few-belts}
 use Rattle.route.proofs.Stores.{packed-sets}
-use Rattle.route.proofs.Forms.{form-size, length-belts, beltsFrom, belts-next, belts-done}
+use Rattle.route.proofs.Forms.{beltsFrom, belts-next, belts-done}
 use Rattle.route.proofs.sheet.read_route.Statement.{statement}
 use Rattle.route.proofs.sheet.read_route.Tie as tie
 
@@ -19,21 +20,18 @@ abbrev μ-loop : tie.MeasureT-loop
 μ-loop h count belts₀ k₀ belts k = count - k
 
 sub-count : tie.Need-sub-count Inv-loop μ-loop
-sub-count c = omega (arith, form-size _ (c .before .pre) .0)
+sub-count c = omega (arith, form-is _ (c .before .pre) .least)
 
 loop-holds : tie.Need-loop-holds Inv-loop μ-loop
-loop-holds c =
-    let h = c .before .args .h .now in
-    let s = form-size h (c .before .pre) in
-    packed-sets (beltsOn h) (omega (arith, length-belts h, s .1))
+loop-holds c = let h = c .before .args .h .now in packed-sets (beltsOn h) (few-belts h (form-is h (c .before .pre)))
 
 -- a step of the sheet is there, and so is its place in the array
 room : (c : tie.In-loop Inv-loop μ-loop)
     → (12 * (c .before .loop .k + 1) + 12 ≤ length (c .before .before .before .args .h .now)) × (c .before .loop .k < 255)
 room c =
     let start = c .before .before .before in
-    let s = form-size (start .args .h .now) (start .pre) in
-    (omega (arith, c .loop-test .taken, s .0), omega (arith, c .loop-test .taken, s .1))
+    let s = form-is (start .args .h .now) (start .pre) in
+    (omega (arith, c .loop-test .taken, s .least), omega (arith, c .loop-test .taken, s .most))
 
 add-field : tie.Need-add-field Inv-loop μ-loop
 add-field c = omega (arith, room c .1)

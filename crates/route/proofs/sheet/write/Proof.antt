@@ -1,10 +1,11 @@
 -- `route::sheet::write` meets its contract: the head, and the steps behind it. Assumes nothing.
-use mathlib.Core.Path.{_≡_, sym, _∙_}
+use mathlib.Core.Path.{_≡_}
 use native.Mathlib.Omega.{arith}
-use lib.ListN.{length, length-map}
+use lib.ListN.{length}
 use borrow.Author.Needs.{needs}
 use Rattle.route.specs.Values.{idsOf}
-use Rattle.route.proofs.Stores.{length-first, written}
+use Rattle.route.proofs.Held.{places, length-first}
+use Rattle.route.proofs.Stores.{written}
 use Rattle.route.proofs.sheet.write.Statement.{statement}
 use Rattle.route.proofs.sheet.write.Tie as tie
 
@@ -25,7 +26,7 @@ same-length c = search needs
 
 -- owning a sheet tells that its route's array has 255 places
 full : (c : tie.Start) → length (c .args .sheet .route .belts) ≡ 255
-full c = sym (length-map (c .args .sheet .route .belts) _) ∙ c .good .1 .0 .1 .1 .0 .1 .1 .1 .0 .1 .0 .1
+full c = places (c .args .sheet .route) (c .good .1 .0 .1 .1 .0 .1 .1 .1 .0 .1 .0 .1)
 
 returns : tie.Need-returns
 returns c =
