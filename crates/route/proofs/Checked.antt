@@ -3,14 +3,14 @@
 --   refused-plan       a refused plan gives its own number
 --   refused-8, refused-11 .. refused-14, none-refused
 --                      with an accepted plan: the number, where a line is the first to be broken, and 0 where none is
---   no-form, said-refused
+--   no-form, content-refused
 --                      where the sheet is not in the form, and where it is and what it says decides
 --   Unrefused          no line is broken; zero-unrefused, unrefused-zero: exactly where the answer is 0
 --   query-accepted, query-ends, ends-query
 --                      lines 1 to 8 are unbroken exactly where the plan is accepted and line 8 unbroken
---   outside-s, outside-t, not-outside, inside, ends-inside
+--   ends-wrong, ends-fine, inside, ends-inside
 --                      line 8 is unbroken exactly where s and t are junctions
---   finding-claim      FirstFindingClaim
+--   first-refusal      FirstRefusalClaim
 --
 -- Assumes nothing.
 use mathlib.Core.Path.{_≡_, refl, sym, _∙_, ap}
@@ -30,16 +30,16 @@ use Rattle.plan.proofs.First.{on-broken, on-unbroken, past, none-broken, first-
 use Rattle.plan.proofs.Accepted.{unbroken}
 use Rattle.route.specs.Refusals.{Case, onPlan, broken8, broken11, broken12, broken13, broken14, routeOn, queryLines, sheetLines, checkLines, sheetRefusal}
 use Rattle.route.specs.declared.sheet.Sheet.{Sheet}
-use Rattle.route.specs.Routes.{connects, cost, beltsNamed}
+use Rattle.route.specs.Routes.{wrongEnds, connects, cost, beltsByName}
 use Rattle.route.specs.Permission.{passes, allMet}
 use Rattle.route.specs.Sheets.{inForm, beltsOn, costOn, settingOn}
 use Rattle.route.specs.Values.{idsOf}
-use Rattle.route.specs.Inner.{sheetBy, saidRefusal}
-use Rattle.route.specs.Claims.{FirstFindingClaim}
+use Rattle.route.specs.Inner.{sheetBy, contentRefusal}
+use Rattle.route.specs.Claims.{FirstRefusalClaim}
 
-pub finding-claim : FirstFindingClaim
+pub first-refusal : FirstRefusalClaim
 unfolding sheetRefusal
-finding-claim k n = first-exactly checkLines k n
+first-refusal k n = first-exactly checkLines k n
 
 -- ---- lines of plans
 
@@ -99,10 +99,10 @@ module _ (k : Case) (ok : Accepted (k .plan)) where
     by-sheet = behind ∙ on-unbroken line8 sheetLines k e8
 
     -- where the sheet is in the form, what it says decides
-    pub said-refused : (v : Sheet) → inForm (k .sheet) ≡ true → idsOf (v .route) ≡ beltsOn (k .sheet) → v .cost ≡ costOn (k .sheet)
-        → v .setting ≡ settingOn (k .sheet) → sheetRefusal k ≡ saidRefusal (planOf (k .plan)) (k .s) (k .t) v
+    pub content-refused : (v : Sheet) → inForm (k .sheet) ≡ true → idsOf (v .route) ≡ beltsOn (k .sheet) → v .cost ≡ costOn (k .sheet)
+        → v .setting ≡ settingOn (k .sheet) → sheetRefusal k ≡ contentRefusal (planOf (k .plan)) (k .s) (k .t) v
     unfolding broken11 broken12 broken13 broken14
-    said-refused v form ids c σ =
+    content-refused v form ids c σ =
         by-sheet
         ∙ lines-sheet (inForm (k .sheet)) (all (λ (e : ℕ). mem e (namesOf (planOf (k .plan) .belts))) (beltsOn (k .sheet)))
         (ltb (settingOn (k .sheet)) (2 ^ planOf (k .plan) .modes)) (connects (k .s) (k .t) (routeOn k)) (eqb (cost (routeOn k)) (costOn (k .sheet)))
@@ -112,8 +112,8 @@ module _ (k : Case) (ok : Accepted (k .plan)) where
         by : List ℕ → ℕ → ℕ → ℕ
         by es c σ =
             sheetBy (all (λ (e : ℕ). mem e (namesOf (planOf (k .plan) .belts))) es && ltb σ (2 ^ planOf (k .plan) .modes))
-            (connects (k .s) (k .t) (beltsNamed (planOf (k .plan)) es)) (eqb (cost (beltsNamed (planOf (k .plan)) es)) c)
-            (allMet (planOf (k .plan) .rules) (passes (beltsNamed (planOf (k .plan)) es)) σ)
+            (connects (k .s) (k .t) (beltsByName (planOf (k .plan)) es)) (eqb (cost (beltsByName (planOf (k .plan)) es)) c)
+            (allMet (planOf (k .plan) .rules) (passes (beltsByName (planOf (k .plan)) es)) σ)
 
     pub no-form : inForm (k .sheet) ≡ false → sheetRefusal k ≡ 11
     unfolding broken11
@@ -181,28 +181,14 @@ module _ (k : Case) where
       go (inl a) = on-plan k planLines (unbroken (k .plan) (ok .unrefused)) l a
       go (inr a) = ap (λ (y : Line Case). y .broken k) (List·Memᴰ·eq-of-singleton a) ∙ e
 
-  pub outside-s : not (within 1 (k .s) (planOf (k .plan) .junctions)) ≡ true → broken8 k ≡ true
+  -- line 8
+  pub ends-wrong : wrongEnds (planOf (k .plan)) (k .s) (k .t) ≡ true → broken8 k ≡ true
   unfolding broken8
-  outside-s e = go (within 1 (k .s) (planOf (k .plan) .junctions)) e
-    where
-      go : (a : Bool) → not a ≡ true → not (a && within 1 (k .t) (planOf (k .plan) .junctions)) ≡ true
-      go true h = absurd (true≢false (sym h))
-      go false h = refl
+  ends-wrong e = e
 
-  pub outside-t : not (within 1 (k .t) (planOf (k .plan) .junctions)) ≡ true → broken8 k ≡ true
+  pub ends-fine : wrongEnds (planOf (k .plan)) (k .s) (k .t) ≡ false → broken8 k ≡ false
   unfolding broken8
-  outside-t e = go (within 1 (k .s) (planOf (k .plan) .junctions)) (within 1 (k .t) (planOf (k .plan) .junctions)) e
-    where
-      go : (a b : Bool) → not b ≡ true → not (a && b) ≡ true
-      go a true h = absurd (true≢false (sym h))
-      go true false h = refl
-      go false false h = refl
-
-  pub not-outside : not (within 1 (k .s) (planOf (k .plan) .junctions)) ≡ false → not (within 1 (k .t) (planOf (k .plan) .junctions)) ≡ false → broken8 k ≡ false
-  unfolding broken8
-  not-outside a b =
-      ap not (and-is (within 1 (k .s) (planOf (k .plan) .junctions)) (within 1 (k .t) (planOf (k .plan) .junctions))
-      (not-false (within 1 (k .s) (planOf (k .plan) .junctions)) a) (not-false (within 1 (k .t) (planOf (k .plan) .junctions)) b))
+  ends-fine e = e
 
   pub inside : 1 ≤ k .s → k .s ≤ planOf (k .plan) .junctions → 1 ≤ k .t → k .t ≤ planOf (k .plan) .junctions → broken8 k ≡ false
   unfolding broken8

@@ -3,12 +3,12 @@ use Rattle.route.specs.Claims.{Claims}
 use Rattle.route.proofs.Condition.{order-free}
 use Rattle.route.proofs.Plans.{plan-instance, cost-weight}
 use Rattle.route.proofs.Feasible.{met-claim, permitted-claim, paths-claim}
-use Rattle.route.proofs.Order.{order-claim}
-use Rattle.route.proofs.Enumeration.{none-above, routes-claim}
+use Rattle.route.proofs.Order.{order-claim, ends-claim}
+use Rattle.route.proofs.Enumeration.{routes-claim}
 use Rattle.route.proofs.Lowest.{lowest-claim}
-use Rattle.route.proofs.Readings.{round-trip, one-reading, reading-claim}
-use Rattle.route.proofs.Checked.{finding-claim}
-use Rattle.route.proofs.Solutions.{check-claim, written-claim}
+use Rattle.route.proofs.Readings.{round-trip, read-back, one-reading, reading-claim}
+use Rattle.route.proofs.Checked.{first-refusal}
+use Rattle.route.proofs.Solutions.{check-claim, written-claim, writer-claim}
 
 pub claims : Claims
 claims = record {
@@ -20,12 +20,14 @@ claims = record {
   cost = cost-weight;
   lowest = lowest-claim;
   order = order-claim;
-  none-above = none-above;
+  ends = ends-claim;
   routes = routes-claim;
   reading = reading-claim;
   one-reading = one-reading;
   round-trip = round-trip;
-  first-finding = finding-claim;
+  read-back = read-back;
+  first-refusal = first-refusal;
   check = check-claim;
   written = written-claim;
+  writer = writer-claim;
 }

@@ -1,6 +1,5 @@
 -- `routes` lists exactly the routes from s to t, each once.
 --
---   none-above     there is no route from s to t where s > t (NoneAboveClaim)
 --   routes-claim   the listed lists are the routes, and none is listed twice (RoutesClaim)
 --
 -- Assumes nothing.
@@ -19,11 +18,8 @@ use Rattle.plan.proofs.Lists.{in-keep, keep-in, in-map, map-in, in-joined, join
 use Rattle.plan.proofs.Rising.{Rises, more}
 use Rattle.plan.proofs.Reading.{belts-rise, belt-ends}
 use Rattle.route.specs.Routes.{IsRoute, stay, routesOf, Distinct}
-use Rattle.route.specs.Claims.{NoneAboveClaim, RoutesClaim}
-use Rattle.route.proofs.Named.{route-length}
-
-pub none-above : NoneAboveClaim
-none-above b ok s t r h = omega (arith, route-length ok s t r h)
+use Rattle.route.specs.Claims.{RoutesClaim}
+use Rattle.route.proofs.Order.{ends-claim}
 
 -- ---- the parts of `routesOf`
 
@@ -78,12 +74,12 @@ module _ {b : List ℕ} (ok : Accepted b) (t : ℕ) where
   complete : (n s : ℕ) (r : List Belt) → t ≤ s + n → IsRoute (planOf b) s t r → List·Memᴰ r (routesOf (planOf b) n s t)
   complete zero s [] u h = subst (List·Memᴰ []) (sym (stay-from (eqb s t))) (here-listed s [] h)
   complete (suc n) s [] u h = here-listed s (onward (planOf b) s (λ (u : ℕ). routesOf (planOf b) n u t)) h
-  complete zero s (e ∷ r) u h = absurd (omega (arith, h .1, belt-ends ok e (h .0) .1, none-above b ok (e .leads) t r (h .2)))
+  complete zero s (e ∷ r) u h = absurd (omega (arith, h .1, belt-ends ok e (h .0) .1, ends-claim b ok (e .leads) t r (h .2) .0))
   complete (suc n) s (e ∷ r) u h =
       let f : ℕ → List (List Belt) = λ (u : ℕ). routesOf (planOf b) n u t in
       let w : e .leaves ≡ s = h .1 in
       let up : e .leaves < e .leads = belt-ends ok e (h .0) .1 in
-      let top : e .leads ≤ t = none-above b ok (e .leads) t r (h .2) in
+      let top : e .leads ≤ t = ends-claim b ok (e .leads) t r (h .2) .0 in
       later-listed s (onward (planOf b) s f) (e ∷ r) (omega arith)
       (in-joined (via f)
       (in-keep (λ (x : Belt). eqb (x .leaves) s) (planOf b .belts) (h .0) (eq-eqb (e .leaves) s w))

@@ -21,7 +21,7 @@ use Rattle.plan.specs.Plan.{Belt, beltAt, beltId}
 use Rattle.plan.specs.Reading.{Accepted, IsBelt}
 use Rattle.route.specs.declared.path.Route.{Route}
 use Rattle.route.specs.Values.{idsOf, Known, routeIn}
-use Rattle.route.proofs.Named.{known-route}
+use Rattle.route.proofs.ByName.{known-route}
 
 pub places : (r : Route) {n : ℕ} → length (map {B = ℕ × Unit {0}} (λ (e : BeltId). (e .0, tt)) (r .belts)) ≡ n → length (r .belts) ≡ n
 places r h = sym (length-map {B = ℕ × Unit {0}} (r .belts) (λ (e : BeltId). (e .0, tt))) ∙ h

@@ -3,7 +3,7 @@ pub mod Condition
 pub mod Plans
 pub mod Bits
 pub mod Feasible
-pub mod Named
+pub mod ByName
 pub mod Order
 pub mod Enumeration
 pub mod Lowest

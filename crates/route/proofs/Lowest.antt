@@ -129,13 +129,13 @@ module _ (f : ℕ → Bool) where
 -- ---- settings
 
 pub lowest-claim : LowestClaim
-lowest-claim b r = ((λ σ. (to σ, from σ)), (none-to, none-from))
+lowest-claim rules m r = ((λ σ. (to σ, from σ)), (none-to, none-from))
   where
     top : ℕ
-    top = 2 ^ planOf b .modes
+    top = 2 ^ m
 
     works : ℕ → Bool
-    works σ = allMet (planOf b .rules) (passes r) σ
+    works σ = allMet rules (passes r) σ
 
     is : First works 0 top (find works (run 0 top))
     is = find-run works 0 top
@@ -146,10 +146,10 @@ lowest-claim b r = ((λ σ. (to σ, from σ)), (none-to, none-from))
     from : (σ : ℕ) → (σ < top) × (works σ ≡ true) × ((τ : ℕ) → τ < σ → works τ ≡ false) → find works (run 0 top) ≡ some σ
     from σ h = find-is works 0 top σ (omega arith, omega (arith, h .0), h .1, λ τ l u. h .2 τ u)
 
-    none-to : find works (run 0 top) ≡ none → Permitted (planOf b .rules) (planOf b .modes) r → ⊥
+    none-to : find works (run 0 top) ≡ none → Permitted rules m r → ⊥
     none-to e w = never (w .2) (subst (First works 0 top) e is (w .0) (omega arith) (omega (arith, w .1)))
 
-    none-from : (Permitted (planOf b .rules) (planOf b .modes) r → ⊥) → find works (run 0 top) ≡ none
+    none-from : (Permitted rules m r → ⊥) → find works (run 0 top) ≡ none
     none-from h = find-none works 0 top (λ τ l u. go τ (omega (arith, u)) (test (works τ)))
       where
         go : (τ : ℕ) → τ < top → (works τ ≡ true) ⊎ (works τ ≡ false) → works τ ≡ false

@@ -7,6 +7,7 @@
 --   before-trans       what comes before one that comes before a third comes before the third
 --   not-before-trans   the same of "does not come before"
 --   before-total       two routes from s to t of which neither comes before the other are equal
+--   ends-claim         there is no route from s to t where s > t, and only the empty one where s = t (EndsClaim)
 --   no-longer          no route from s to t goes on where another ends
 --   order-claim        all this as it is claimed (OrderClaim)
 --
@@ -14,9 +15,10 @@
 use mathlib.Core.Path.{_≡_, refl, sym, _∙_, ap, subst}
 use mathlib.Core.Logic.{_⊎_, inl, inr}
 use mathlib.Core.Bool.{Bool, true, false, _&&_, _||_, true≢false}
-use Prim.Native.Nat.{ℕ, _≤_, _<_}
+use Prim.Native.Nat.{ℕ, _+_, _≤_, _<_}
 use mathlib.Core.List.{List, [], _∷_, _++_}
 use native.Mathlib.Omega.{arith}
+use lib.ListN.{length}
 use lib.Dec.{eqb, ltb}
 use borrow.Author.Tests.{eqb-true, eqb-false, eq-eqb, ne-eqb, ltb-true, ltb-false, lt-ltb, le-ltb}
 use Rattle.plan.specs.Plan.{Belt, planOf}
@@ -24,8 +26,8 @@ use Rattle.plan.specs.Reading.{Accepted}
 use Rattle.plan.proofs.Lists.{test, both, either, neither}
 use Rattle.plan.proofs.Reading.{belt-name}
 use Rattle.route.specs.Routes.{IsRoute, cost, first, lower, before}
-use Rattle.route.specs.Claims.{OrderClaim}
-use Rattle.route.proofs.Named.{route-length}
+use Rattle.route.specs.Claims.{OrderClaim, EndsClaim}
+use Rattle.route.proofs.ByName.{route-length}
 
 -- ---- one number, and the rest
 
@@ -139,6 +141,15 @@ before-trans a b c h k = first-trans (cost a) (cost b) (cost c) (lower a b) (low
 pub not-before-trans : (a b c : List Belt) → before a b ≡ false → before b c ≡ false → before a c ≡ false
 not-before-trans a b c h k = not-first-trans (cost a) (cost b) (cost c) (lower a b) (lower b c) (lower a c) (not-lower-trans a b c) h k
 
+-- ---- a belt leads higher
+
+pub ends-claim : EndsClaim
+ends-claim b ok s t r h = (omega (arith, route-length ok s t r h), empty r (route-length ok s t r h))
+  where
+    empty : (r : List Belt) → s + length r ≤ t → s ≡ t → r ≡ []
+    empty [] l e = refl
+    empty (e ∷ r) l q = absurd (omega arith)
+
 -- ---- of two different routes one comes before the other
 
 module _ {b : List ℕ} (ok : Accepted b) where
@@ -160,13 +171,8 @@ module _ {b : List ℕ} (ok : Accepted b) where
       let (n, l, r) = neither-first (cost x) (cost y) (lower x y) (lower y x) h k in
       lower-total s t x y p q l r
 
-  -- a belt leads higher, so a route from t to t is empty
-  ends : (t : ℕ) (y : List Belt) → IsRoute (planOf b) t t y → y ≡ []
-  ends t [] q = refl
-  ends t (e ∷ y) q = absurd (omega (arith, route-length ok t t (e ∷ y) q))
-
   pub no-longer : (s t : ℕ) (x y : List Belt) → IsRoute (planOf b) s t x → IsRoute (planOf b) s t (x ++ y) → y ≡ []
-  no-longer s t [] y p q = ends t y (subst (λ (u : ℕ). IsRoute (planOf b) u t y) p q)
+  no-longer s t [] y p q = ends-claim b ok s t y q .1 p
   no-longer s t (e ∷ x) y p q = no-longer (e .leads) t x y (p .2) (q .2)
 
 pub order-claim : OrderClaim

@@ -8,6 +8,7 @@
 --                       there are twelve bytes for each step, and a sheet has twelve more
 --   reads-short         bytes that have a reading are 12 to 3,072 many
 --   round-trip          a sheet is in the form, and belts, cost and setting read back as written
+--   read-back           so the code reads back what it writes
 --   one-reading         bytes have at most one reading
 --   reading-claim       bytes are in the form exactly when they read as what stands in their fields
 --
@@ -27,7 +28,8 @@ use Rattle.plan.specs.Reading.{Bytes}
 use Rattle.plan.proofs.Lists.{both, within-is, is-within, all-in, all-is, map-in, length-run, map-run, in-upto, upto-in}
 use Rattle.plan.proofs.Reading.{field-low}
 use Rattle.route.specs.Sheets.{nextOf, stepsFrom, headOf, sheetOf, Reads, steps, headFits, stepFits, places, inForm, beltsOn, costOn, settingOn}
-use Rattle.route.specs.Claims.{ReadingClaim, OneReadingClaim, RoundTripClaim}
+use Rattle.route.specs.Claims.{ReadingClaim, OneReadingClaim, RoundTripClaim, ReadBackClaim}
+use Rattle.route.specs.Values.{idsOf, packed, bytesOf}
 
 -- ---- the form, by equations
 
@@ -223,6 +225,11 @@ pub round-trip : RoundTripClaim
 round-trip h es c σ r =
     subst (λ (g : List ℕ). (inForm g ≡ true) × (beltsOn g ≡ es) × (costOn g ≡ c) × (settingOn g ≡ σ)) (sym (r .written))
     (is-form (sheetOf es c σ) (form-back es c σ (r .short)), belts-back es c σ, cost-back es c σ, setting-back es c σ)
+
+pub read-back : ReadBackClaim
+read-back v r =
+    let (form, belts, c, σ) = round-trip (bytesOf v) (idsOf (v .route)) (v .cost) (v .setting) r in
+    (form, λ i. record { route = packed (belts i); cost = c i; setting = σ i })
 
 pub one-reading : OneReadingClaim
 one-reading h es fs c d σ τ r s =

@@ -5,6 +5,7 @@
 --   solved-accepted          a sheet that reads as a feasible solution is accepted
 --   check-claim              both (CheckClaim)
 --   written-claim            the sheet of a permitted route with its lowest setting is accepted (WrittenClaim)
+--   writer-claim             and so is what the code writes of a route that it holds (WriterClaim)
 --
 -- Assumes nothing.
 use mathlib.Core.Path.{_≡_, refl, sym, _∙_, ap, subst}
@@ -23,18 +24,19 @@ use Rattle.plan.proofs.Lists.{both, and-is, all-is, in-map, map-in, in-mem}
 use Rattle.plan.proofs.Naming.{names-back}
 use Rattle.plan.proofs.Reading.{plan-sizes, belt-of, belt-low}
 use Rattle.route.specs.Lcsp.{Arc, weightOf, FeasibleBy}
-use Rattle.route.specs.Routes.{IsRoute, connects, cost, beltsNamed}
+use Rattle.route.specs.Routes.{IsRoute, connects, cost, beltsByName}
 use Rattle.route.specs.Permission.{passes, allMet}
 use Rattle.route.specs.Instances.{arcOf, instanceOf, joint}
 use Rattle.route.specs.Sheets.{sheetOf, Reads, inForm, beltsOn, costOn, settingOn}
 use Rattle.route.specs.Refusals.{Case, broken11, broken12, broken13, broken14, routeOn, queryLines, sheetRefusal}
-use Rattle.route.specs.Claims.{ReadsSolved, CheckClaim, WrittenClaim}
+use Rattle.route.specs.Claims.{ReadsSolved, CheckClaim, WrittenClaim, WriterClaim}
+use Rattle.route.specs.Values.{idsOf, routeIn, bytesOf, caseOf}
 use Rattle.route.proofs.Plans.{arcs-belts, cost-weight}
 use Rattle.route.proofs.Feasible.{joint-feasible, feasible-joint}
-use Rattle.route.proofs.Named.{named-map, names-belts, named-in, known-belts, connects-route, route-connects, route-belts, route-length, route-cost}
+use Rattle.route.proofs.ByName.{named-map, names-belts, named-in, known-belts, connects-route, route-connects, route-belts, route-length, route-cost, known-route}
 use Rattle.route.proofs.Lowest.{all-modes, lowest-claim}
 use Rattle.route.proofs.Readings.{round-trip, reading-claim}
-use Rattle.route.proofs.Checked.{Unrefused, zero-unrefused, unrefused-zero, query-accepted, ends-query, inside}
+use Rattle.route.proofs.Checked.{Unrefused, zero-unrefused, unrefused-zero, query-accepted, ends-query, inside, ends-fine, ends-inside}
 
 -- ---- line 11
 
@@ -140,7 +142,7 @@ module _ (k : Case) (query : Unbroken queryLines k) (x : ReadsSolved k) where
   names-read = back .1 ∙ sym (x .solution .belts) ∙ ap (map (λ (a : Arc). a .number)) is-path ∙ numbers-names r
 
   read-is : routeOn k ≡ r
-  read-is = ap (beltsNamed p) names-read ∙ names-belts okay r (route-belts p (k .s) (k .t) r (holds-for .0))
+  read-is = ap (beltsByName p) names-read ∙ names-belts okay r (route-belts p (k .s) (k .t) r (holds-for .0))
 
   all-known : all (λ (e : ℕ). mem e (namesOf (p .belts))) (beltsOn (k .sheet)) ≡ true
   all-known = all-is (λ (e : ℕ). mem e (namesOf (p .belts))) (beltsOn (k .sheet)) one
@@ -178,7 +180,7 @@ module _ (k : Case) (query : Unbroken queryLines k) (x : ReadsSolved k) where
       }
 
 pub check-claim : CheckClaim
-check-claim k plan-bytes bytes =
+check-claim k bytes =
     (λ e. let u = zero-unrefused k e in (u .query, accepted-solved k bytes u), λ h. solved-accepted k (h .0) (h .1))
 
 -- ---- the sheet of a permitted route
@@ -212,7 +214,7 @@ module _ {b : List ℕ} (good : Accepted b) (plan-bytes : Bytes b) (s t : ℕ) (
 pub written-claim : WrittenClaim
 written-claim b good bytes s t a c d e r route σ h =
     let k : Case = record { plan = b; s = s; t = t; sheet = sheetOf (namesOf r) (cost r) σ } in
-    let works = lowest-claim b r .0 σ .0 h in
+    let works = lowest-claim (planOf b .rules) (planOf b .modes) r .0 σ .0 h in
     solved-accepted k (ends-query k good (inside k a c d e)) record {
       belts = namesOf r;
       cost = cost r;
@@ -226,3 +228,12 @@ written-claim b good bytes s t a c d e r route σ h =
         feasible = joint-feasible good s t r σ route (works .1);
       };
     }
+
+pub writer-claim : WriterClaim
+writer-claim b good bytes trip ends v known route sum least =
+    let k : Case = caseOf b trip (bytesOf v) in
+    let (a, c, d, e) = ends-inside k (ends-fine k ends) in
+    let r : List Belt = routeIn b (v .route) in
+    let names : namesOf r ≡ idsOf (v .route) = ap namesOf (known-route good (v .route) known) ∙ names-back b (idsOf (v .route)) in
+    subst (λ (h : List ℕ). sheetRefusal (caseOf b trip h) ≡ 0) (λ i. sheetOf (names i) (sym sum i) (v .setting))
+    (written-claim b good bytes (trip .s) (trip .t) a c d e r route (v .setting) least)

@@ -13,16 +13,17 @@
 -- Routes:
 --   LowestClaim        `lowest` is the lowest setting that works, and there is none exactly when the route is not permitted
 --   OrderClaim         "comes before" is a strict total order on the routes from s to t
---   NoneAboveClaim     there is no route from s to t where s > t
+--   EndsClaim          there is no route from s to t where s > t, and only the empty one where s = t
 --   RoutesClaim        `routes` lists exactly the routes from s to t, each once
 -- Sheets:
 --   ReadingClaim       bytes are in the form of a sheet exactly when they have a reading, which is what stands in their fields
 --   OneReadingClaim    a sheet has at most one reading
---   RoundTripClaim     a sheet reads as what was written
---   FirstFindingClaim  the check answers n exactly when n is the number of the first broken line, and 0 exactly when none is broken
+--   RoundTripClaim     a sheet reads as what was written; ReadBackClaim: and the code reads back what it wrote
+--   FirstRefusalClaim  the check answers n exactly when n is the number of the first broken line, and 0 exactly when none is broken
 --   CheckClaim         DEMAND 2: the check accepts exactly when lines 1 to 8 are unbroken and the sheet reads as belts, cost and setting
 --                      that are a feasible solution (Solution) of the instance
---   WrittenClaim       the sheet of a permitted route with its lowest setting is accepted
+--   WrittenClaim       the sheet of a permitted route with its lowest setting is accepted; WriterClaim: and so is what the code writes
+--                      of a route that it holds
 --
 -- Assumes nothing.
 use mathlib.Core.Path.{_≡_}
@@ -35,11 +36,15 @@ use Rattle.plan.specs.Plan.{Belt, planOf, namesOf}
 use Rattle.plan.specs.Claims.{Unbroken, FirstIn}
 use Rattle.plan.specs.Reading.{Accepted, Bytes}
 use Rattle.route.specs.Lcsp.{Var, Lit, Formula, IsAssignment, _∥_, Satisfies, Arc, IsInstance, weightOf, FeasibleBy, Feasible}
-use Rattle.route.specs.Routes.{IsRoute, cost, before, routes, Distinct}
+use Rattle.plan.specs.declared.read.Literal.{Literal}
+use Rattle.route.specs.declared.path.Trip.{Trip}
+use Rattle.route.specs.declared.sheet.Sheet.{Sheet}
+use Rattle.route.specs.Routes.{wrongEnds, IsRoute, cost, before, routes, Distinct}
 use Rattle.route.specs.Permission.{passes, allMet, Permitted, lowest}
 use Rattle.route.specs.Instances.{arcOf, instanceOf, joint}
 use Rattle.route.specs.Sheets.{sheetOf, Reads, inForm, beltsOn, costOn, settingOn}
 use Rattle.route.specs.Refusals.{Case, queryLines, checkLines, sheetRefusal}
+use Rattle.route.specs.Values.{idsOf, packed, Known, routeIn, sheetIn, bytesOf, caseOf}
 
 -- ---- the published definition
 
@@ -69,11 +74,10 @@ CostClaim = (r : List Belt) → cost r ≡ weightOf (map arcOf r)
 -- ---- routes
 
 abbrev pub LowestClaim : Type 0
-LowestClaim = (b : List ℕ) (r : List Belt) →
-    ((σ : ℕ) → (lowest (planOf b .rules) (planOf b .modes) (passes r) ≡ some σ)
-    ↔ ((σ < 2 ^ planOf b .modes) × (allMet (planOf b .rules) (passes r) σ ≡ true)
-    × ((τ : ℕ) → τ < σ → allMet (planOf b .rules) (passes r) τ ≡ false)))
-    × ((lowest (planOf b .rules) (planOf b .modes) (passes r) ≡ none) ↔ (Permitted (planOf b .rules) (planOf b .modes) r → ⊥))
+LowestClaim = (rules : List (List Literal)) (m : ℕ) (r : List Belt) →
+    ((σ : ℕ) → (lowest rules m (passes r) ≡ some σ)
+    ↔ ((σ < 2 ^ m) × (allMet rules (passes r) σ ≡ true) × ((τ : ℕ) → τ < σ → allMet rules (passes r) τ ≡ false)))
+    × ((lowest rules m (passes r) ≡ none) ↔ (Permitted rules m r → ⊥))
 
 -- irreflexive, transitive, and of two different routes one comes before the other; and no route goes on where another ends, so that
 -- two different ones have a first difference
@@ -84,8 +88,8 @@ OrderClaim = (b : List ℕ) → Accepted b → (s t : ℕ) →
     × ((x y : List Belt) → IsRoute (planOf b) s t x → IsRoute (planOf b) s t y → (x ≡ y → ⊥) → (before x y ≡ true) ⊎ (before y x ≡ true))
     × ((x y : List Belt) → IsRoute (planOf b) s t x → IsRoute (planOf b) s t (x ++ y) → y ≡ [])
 
-abbrev pub NoneAboveClaim : Type 0
-NoneAboveClaim = (b : List ℕ) → Accepted b → (s t : ℕ) (r : List Belt) → IsRoute (planOf b) s t r → s ≤ t
+abbrev pub EndsClaim : Type 0
+EndsClaim = (b : List ℕ) → Accepted b → (s t : ℕ) (r : List Belt) → IsRoute (planOf b) s t r → (s ≤ t) × (s ≡ t → r ≡ [])
 
 abbrev pub RoutesClaim : Type 0
 RoutesClaim = (b : List ℕ) → Accepted b → (s t : ℕ)
@@ -102,11 +106,15 @@ OneReadingClaim = (h es fs : List ℕ) (c d σ τ : ℕ) → Reads h es c σ →
 abbrev pub RoundTripClaim : Type 0
 RoundTripClaim = (h es : List ℕ) (c σ : ℕ) → Reads h es c σ → (inForm h ≡ true) × (beltsOn h ≡ es) × (costOn h ≡ c) × (settingOn h ≡ σ)
 
-abbrev pub FirstFindingClaim : Type 0
-FirstFindingClaim = (k : Case) (n : ℕ) → (sheetRefusal k ≡ n) ↔ (((n ≡ 0) × Unbroken checkLines k) ⊎ FirstIn checkLines k n)
+abbrev pub ReadBackClaim : Type 0
+ReadBackClaim = (v : Sheet) → Reads (bytesOf v) (idsOf (v .route)) (v .cost) (v .setting)
+    → (inForm (bytesOf v) ≡ true) × (sheetIn (bytesOf v) ≡ record { route = packed (idsOf (v .route)); cost = v .cost; setting = v .setting })
 
--- the belts es, the cost c and the setting σ are a feasible solution of the instance of plan b from s to t: there is a path of these
--- arcs and this weight, and with the joint assignment of path and setting it is feasible
+abbrev pub FirstRefusalClaim : Type 0
+FirstRefusalClaim = (k : Case) (n : ℕ) → (sheetRefusal k ≡ n) ↔ (((n ≡ 0) × Unbroken checkLines k) ⊎ FirstIn checkLines k n)
+
+-- the belts es, the cost c and the setting σ are a feasible solution of the instance of plan b from s to t: σ is a setting of the plan's
+-- modes, there is a path of these arcs and this weight, and by the joint assignment of path and setting it is feasible
 pub record Solution (b : List ℕ) (s t : ℕ) (es : List ℕ) (c σ : ℕ) : Type 0 where
   pub path : List Arc
   pub belts : map (λ (a : Arc). a .number) path ≡ es
@@ -123,12 +131,18 @@ pub record ReadsSolved (k : Case) : Type 0 where
   pub solution : Solution (k .plan) (k .s) (k .t) belts cost setting
 
 abbrev pub CheckClaim : Type 0
-CheckClaim = (k : Case) → Bytes (k .plan) → Bytes (k .sheet) → (sheetRefusal k ≡ 0) ↔ (Unbroken queryLines k × ReadsSolved k)
+CheckClaim = (k : Case) → Bytes (k .sheet) → (sheetRefusal k ≡ 0) ↔ (Unbroken queryLines k × ReadsSolved k)
 
 abbrev pub WrittenClaim : Type 0
 WrittenClaim = (b : List ℕ) → Accepted b → Bytes b → (s t : ℕ) → 1 ≤ s → s ≤ planOf b .junctions → 1 ≤ t → t ≤ planOf b .junctions
     → (r : List Belt) → IsRoute (planOf b) s t r → (σ : ℕ) → lowest (planOf b .rules) (planOf b .modes) (passes r) ≡ some σ
     → sheetRefusal (record { plan = b; s = s; t = t; sheet = sheetOf (namesOf r) (cost r) σ }) ≡ 0
+
+abbrev pub WriterClaim : Type 0
+WriterClaim = (b : List ℕ) → Accepted b → Bytes b → (trip : Trip) → wrongEnds (planOf b) (trip .s) (trip .t) ≡ false
+    → (v : Sheet) → Known b (v .route) → IsRoute (planOf b) (trip .s) (trip .t) (routeIn b (v .route)) → v .cost ≡ cost (routeIn b (v .route))
+    → lowest (planOf b .rules) (planOf b .modes) (passes (routeIn b (v .route))) ≡ some (v .setting)
+    → sheetRefusal (caseOf b trip (bytesOf v)) ≡ 0
 
 -- all of them
 pub record Claims : Type 0 where
@@ -140,11 +154,13 @@ pub record Claims : Type 0 where
   pub cost : CostClaim
   pub lowest : LowestClaim
   pub order : OrderClaim
-  pub none-above : NoneAboveClaim
+  pub ends : EndsClaim
   pub routes : RoutesClaim
   pub reading : ReadingClaim
   pub one-reading : OneReadingClaim
   pub round-trip : RoundTripClaim
-  pub first-finding : FirstFindingClaim
+  pub read-back : ReadBackClaim
+  pub first-refusal : FirstRefusalClaim
   pub check : CheckClaim
   pub written : WrittenClaim
+  pub writer : WriterClaim

@@ -13,7 +13,7 @@ use Rattle.plan.specs.Plan.{planOf, named, namesOf}
 use Rattle.plan.specs.Refusals.{broken1, broken2, broken3, broken4, broken5, broken6, broken7}
 use Rattle.plan.specs.Examples.{planP}
 use Rattle.route.specs.Lcsp.{_∥_}
-use Rattle.route.specs.Routes.{before, routes, beltsNamed}
+use Rattle.route.specs.Routes.{before, routes, beltsByName}
 use Rattle.route.specs.Permission.{passes, lowest}
 use Rattle.route.specs.Instances.{arcOf, instanceOf, joint}
 use Rattle.route.specs.Sheets.{sheetOf, inForm}
@@ -35,14 +35,14 @@ unfolding planP planOf
 routes-1-1 = refl
 
 -- 4 6 costs 7 and 5 costs 9
-cheaper : before (beltsNamed (planOf planP) (4 ∷ 6 ∷ [])) (beltsNamed (planOf planP) (5 ∷ [])) ≡ true
+cheaper : before (beltsByName (planOf planP) (4 ∷ 6 ∷ [])) (beltsByName (planOf planP) (5 ∷ [])) ≡ true
 unfolding planP planOf
 cheaper = refl
 
 -- ---- permission
 
 abbrev lowestOf : List ℕ → List ℕ → mathlib.Core.Option.Option ℕ
-lowestOf b es = lowest (planOf b .rules) (planOf b .modes) (passes (beltsNamed (planOf b) es))
+lowestOf b es = lowest (planOf b .rules) (planOf b .modes) (passes (beltsByName (planOf b) es))
 
 -- the rule: not belt 4, or not belt 6
 P-5 : lowestOf planP (5 ∷ []) ≡ some 0
@@ -54,11 +54,11 @@ unfolding planP planOf
 P-4-6 = refl
 
 -- conditioning by the joint assignment of belt 5 and setting 0 leaves nothing; that of belts 4 and 6 leaves the empty clause
-P-5-leaves : instanceOf (planOf planP) 1 3 .formula ∥ joint (planOf planP) (map arcOf (beltsNamed (planOf planP) (5 ∷ []))) 0 ≡ []
+P-5-leaves : instanceOf (planOf planP) 1 3 .formula ∥ joint (planOf planP) (map arcOf (beltsByName (planOf planP) (5 ∷ []))) 0 ≡ []
 unfolding planP planOf
 P-5-leaves = refl
 
-P-4-6-leaves : instanceOf (planOf planP) 1 3 .formula ∥ joint (planOf planP) (map arcOf (beltsNamed (planOf planP) (4 ∷ 6 ∷ []))) 1 ≡ [] ∷ []
+P-4-6-leaves : instanceOf (planOf planP) 1 3 .formula ∥ joint (planOf planP) (map arcOf (beltsByName (planOf planP) (4 ∷ 6 ∷ []))) 1 ≡ [] ∷ []
 unfolding planP planOf
 P-4-6-leaves = refl
 

@@ -3,7 +3,7 @@
 --   placed l i vs   l with vs from place i on
 --   Low r           a Route of at most 255 belts with names below 2,048, so that each can be looked up
 --   Nameable l      what literal l names can be looked up: a belt below 2,048, a mode from 1 to 10
---   saidRefusal p s t v
+--   contentRefusal p s t v
 --                   the first broken one of lines 11 to 14, or 0, by what a sheet in the form says
 --
 -- Assumes nothing.
@@ -18,7 +18,7 @@ use Rattle.plan.specs.declared.read.Literal.{Literal}
 use Rattle.plan.specs.declared.read.Literal.the-variants.{OfBelt, OfMode}
 use Rattle.route.specs.declared.path.Route.{Route}
 use Rattle.route.specs.declared.sheet.Sheet.{Sheet}
-use Rattle.route.specs.Routes.{connects, cost, beltsNamed}
+use Rattle.route.specs.Routes.{connects, cost, beltsByName}
 use Rattle.route.specs.Permission.{passes, allMet}
 use Rattle.route.specs.Values.{idsOf}
 
@@ -41,9 +41,9 @@ sheetBy true true false d = 13
 sheetBy true true true false = 14
 sheetBy true true true true = 0
 
-abbrev pub saidRefusal : Plan → ℕ → ℕ → Sheet → ℕ
-saidRefusal p s t v =
-    let r = beltsNamed p (idsOf (v .route)) in
+abbrev pub contentRefusal : Plan → ℕ → ℕ → Sheet → ℕ
+contentRefusal p s t v =
+    let r = beltsByName p (idsOf (v .route)) in
     sheetBy
     (all (λ (e : ℕ). mem e (namesOf (p .belts))) (idsOf (v .route)) && ltb (v .setting) (2 ^ p .modes))
     (connects s t r)

@@ -22,6 +22,7 @@
 --   Feasible I p       some T makes it so: p is one of P_{s,t}(Φ)
 --   Solves I p         what the problem asks for: a feasible path of minimal cost
 --
+-- Left out, since Definition 2.1 does not use them: unassigned variables, unsatisfiable and contradicted formulas.
 -- That Φ ∥ T does not depend on the order of T is a law (proofs/Condition.antt). Assumes nothing.
 use mathlib.Core.Path.{_≡_}
 use Prim.Native.Nat.{ℕ, _+_, _≤_}
@@ -146,7 +147,7 @@ abbrev pub weightOf : List Arc → ℕ
 weightOf [] = 0
 weightOf (a ∷ p) = a .weight + weightOf p
 
--- the arc is on the path
+-- the arc is on the path. Arcs are told apart by their numbers, as the bijection lets them be
 abbrev pub onPath : List Arc → Arc → Bool
 onPath [] a = false
 onPath (b ∷ p) a = eqb (b .number) (a .number) || onPath p a

@@ -5,7 +5,7 @@ pub mod Permission
 pub mod Instances
 pub mod Sheets
 pub mod Refusals
-pub mod Claims
 pub mod Values
+pub mod Claims
 pub mod Inner
 pub mod Examples

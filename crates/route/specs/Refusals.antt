@@ -3,23 +3,24 @@
 --
 --   Case                a plan's bytes, s, t and a sheet's bytes
 --   onPlan l            a line about plans, as a line about cases
---   broken8 .. broken14 the line is broken by the case. A sentence means what the paper says where the lines before it are unbroken
+--   broken8, broken11 to broken14
+--                       the line is broken by the case. A sentence means what the paper says where the lines before it are unbroken
 --   routeOn k           the belts that the sheet names
 --   checkLines          lines 1 to 8 and 11 to 14, in the order in which they count
 --   sheetRefusal k      the number of the first broken one, or 0
---   findingNumber f     the paper's number for each case of the check's answer, 0 where it is accepted
+--   sheetNumber v       the paper's number for each case of the check's answer, 0 where it is accepted
 --
 -- Assumes nothing.
 use Prim.Native.Nat.{ℕ, _^_}
 use mathlib.Core.Bool.{Bool, not, _&&_}
 use mathlib.Core.List.{List, [], _∷_, _++_, map}
 use lib.Dec.{eqb, ltb}
-use Rattle.plan.specs.Lists.{all, mem, within}
+use Rattle.plan.specs.Lists.{all, mem}
 use Rattle.plan.specs.Plan.{Belt, planOf, namesOf}
 use Rattle.plan.specs.Refusals.{Line, planLines, firstBroken}
-use Rattle.route.specs.declared.check.Finding.{Finding}
-use Rattle.route.specs.declared.check.Finding.the-variants.{Accepted, WrongSize, WrongHeader, WrongRecord, WrongChain, BackwardBelt, WrongLiteral, ManyNamed, WrongEnds, WrongSheet, NoRoute, WrongCost, UnmetRule}
-use Rattle.route.specs.Routes.{connects, cost, beltsNamed}
+use Rattle.route.specs.declared.check.SheetVerdict.{SheetVerdict}
+use Rattle.route.specs.declared.check.SheetVerdict.the-variants.{Accepted, WrongSize, WrongHeader, WrongRecord, WrongChain, BackwardBelt, WrongLiteral, ManyNamed, WrongEnds, WrongSheet, NotARoute, WrongCost, UnmetRule}
+use Rattle.route.specs.Routes.{wrongEnds, connects, cost, beltsByName}
 use Rattle.route.specs.Permission.{passes, allMet}
 use Rattle.route.specs.Sheets.{inForm, beltsOn, costOn, settingOn}
 
@@ -34,7 +35,7 @@ onPlan l = record { number = l .number; broken = λ (k : Case). l .broken (k .pl
 
 -- 8: s or t outside 1 to J
 unfoldable pub broken8 : Case → Bool
-broken8 k = not (within 1 (k .s) (planOf (k .plan) .junctions) && within 1 (k .t) (planOf (k .plan) .junctions))
+broken8 k = wrongEnds (planOf (k .plan)) (k .s) (k .t)
 
 -- 11: sheet empty, over 3,072 bytes, not in the form, a step whose f2 is no belt's index, or setting 2^M or more
 unfoldable pub broken11 : Case → Bool
@@ -44,7 +45,7 @@ broken11 k =
     && ltb (settingOn (k .sheet)) (2 ^ planOf (k .plan) .modes))
 
 abbrev pub routeOn : Case → List Belt
-routeOn k = beltsNamed (planOf (k .plan)) (beltsOn (k .sheet))
+routeOn k = beltsByName (planOf (k .plan)) (beltsOn (k .sheet))
 
 -- 12: belts not a route from s to t
 unfoldable pub broken12 : Case → Bool
@@ -76,17 +77,17 @@ checkLines = queryLines ++ sheetLines
 unfoldable pub sheetRefusal : Case → ℕ
 sheetRefusal k = firstBroken checkLines k
 
-abbrev pub findingNumber : Finding → ℕ
-findingNumber Accepted = 0
-findingNumber WrongSize = 1
-findingNumber WrongHeader = 2
-findingNumber WrongRecord = 3
-findingNumber WrongChain = 4
-findingNumber BackwardBelt = 5
-findingNumber WrongLiteral = 6
-findingNumber ManyNamed = 7
-findingNumber WrongEnds = 8
-findingNumber WrongSheet = 11
-findingNumber NoRoute = 12
-findingNumber WrongCost = 13
-findingNumber UnmetRule = 14
+abbrev pub sheetNumber : SheetVerdict → ℕ
+sheetNumber Accepted = 0
+sheetNumber WrongSize = 1
+sheetNumber WrongHeader = 2
+sheetNumber WrongRecord = 3
+sheetNumber WrongChain = 4
+sheetNumber BackwardBelt = 5
+sheetNumber WrongLiteral = 6
+sheetNumber ManyNamed = 7
+sheetNumber WrongEnds = 8
+sheetNumber WrongSheet = 11
+sheetNumber NotARoute = 12
+sheetNumber WrongCost = 13
+sheetNumber UnmetRule = 14

@@ -1,22 +1,26 @@
 -- Routes, their cost, their order, and all of them (paper 01, "Permitted routes").
 --
+--   wrongEnds p s t   s or t is no junction of p (line 8 of the refusal table)
 --   IsRoute p s t r   r is a route from s to t: a list of belts of p, each leaving where the last arrived, empty if s = t
 --   connects s t r    the same as a Boolean, of belts that are known to be the plan's
---   cost r            the sum of its belts' costs, belt by belt
+--   cost r            the sum of its belts' costs, belt by belt; costLimit: every route's cost is below it
 --   before a b        route a comes before b: it costs less, or as much and at the first difference its belt index is lower (lower)
 --   routes p s t      all routes from s to t; a belt leads higher, so none has more than t - s belts
 --   Distinct rs       no route stands in the list rs twice
---   beltsNamed p es   the belts of p with these names, in the names' order
+--   beltsByName p es  the belts of p with these names, in the names' order
 --
--- That there is none for s > t, that `before` is a strict total order on the routes from s to t, and that `routes` lists exactly the
+-- That there is none for s > t and only the empty one for s = t, that `before` is a strict total order on the routes from s to t, and that `routes` lists exactly the
 -- routes, each once, are laws (Claims.antt). Assumes nothing.
 use mathlib.Core.Path.{_≡_}
 use Prim.Native.Nat.{ℕ, zero, suc, _+_, _-_}
-use mathlib.Core.Bool.{Bool, true, false, _&&_, _||_}
+use mathlib.Core.Bool.{Bool, true, false, not, _&&_, _||_}
 use mathlib.Core.List.{List, [], _∷_, map, List·Memᴰ}
 use lib.Dec.{eqb, ltb}
-use Rattle.plan.specs.Lists.{keep, joined}
+use Rattle.plan.specs.Lists.{keep, joined, within}
 use Rattle.plan.specs.Plan.{Belt, Plan, leaving}
+
+abbrev pub wrongEnds : Plan → ℕ → ℕ → Bool
+wrongEnds p s t = not (within 1 s (p .junctions) && within 1 t (p .junctions))
 
 abbrev pub IsRoute : Plan → ℕ → ℕ → List Belt → Type 0
 IsRoute p s t [] = s ≡ t
@@ -30,12 +34,16 @@ abbrev pub cost : List Belt → ℕ
 cost [] = 0
 cost (e ∷ r) = e .cost + cost r
 
+-- 2^48: a sheet holds costs of 48 bits
+abbrev pub costLimit : ℕ
+costLimit = 281474976710656
+
 -- m is below n, or is n and the rest decides
 abbrev pub first : ℕ → ℕ → Bool → Bool
 first m n rest = ltb m n || (eqb m n && rest)
 
 -- at the first difference the belt of a is lower. Of two routes from s to t neither goes on where the other ends, so the second and
--- the third line never decide; they make the order total on all lists
+-- the third line never decide between them
 abbrev pub lower : List Belt → List Belt → Bool
 lower [] [] = false
 lower [] (f ∷ b) = true
@@ -70,5 +78,5 @@ Distinct (r ∷ rs) = (List·Memᴰ r rs → ⊥) × Distinct rs
 
 -- ---- belts by their names
 
-abbrev pub beltsNamed : Plan → List ℕ → List Belt
-beltsNamed p es = joined (λ (e : ℕ). keep (λ (x : Belt). eqb (x .name) e) (p .belts)) es
+abbrev pub beltsByName : Plan → List ℕ → List Belt
+beltsByName p es = joined (λ (e : ℕ). keep (λ (x : Belt). eqb (x .name) e) (p .belts)) es

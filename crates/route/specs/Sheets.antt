@@ -20,6 +20,7 @@ use lib.ListN.{length}
 use lib.Dec.{eqb, ltb}
 use Rattle.plan.specs.Lists.{all, upto, within}
 use Rattle.plan.specs.Records.{field, recordOf}
+use Rattle.route.specs.Routes.{costLimit}
 
 -- ---- writing
 
@@ -41,12 +42,11 @@ headOf n c σ = recordOf 8 (nextOf n 0) (c / 4294967296) (c / 65536 % 65536) (c 
 abbrev pub sheetOf : List ℕ → ℕ → ℕ → List ℕ
 sheetOf es c σ = headOf (length es) c σ ++ stepsFrom (length es) 1 es
 
--- 281,474,976,710,656 is 2^48
 pub record Reads (h : List ℕ) (es : List ℕ) (c σ : ℕ) : Type 0 where
   pub written : h ≡ sheetOf es c σ
   pub short : length es ≤ 255
   pub indices : (e : ℕ) → List·Memᴰ e es → e < 65536
-  pub cost-fits : c < 281474976710656
+  pub cost-fits : c < costLimit
   pub setting-fits : σ < 65536
 
 -- ---- reading

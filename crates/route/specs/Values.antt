@@ -1,4 +1,4 @@
--- What the values that the code hands about mean. `Route`, `Sheet`, `Setting` and `Trip` are declared by the code.
+-- What the values that the code hands about mean. `Trip`, `Route`, `Sheet` and `Lowest` are declared by the code.
 --
 --   idsOf r          the names of the belts that a Route holds: the first `count` of its array
 --   packed es        the Route that holds the belts es, the rest of its array 0
@@ -22,10 +22,10 @@ use Rattle.plan.specs.Plan.{Belt, planOf, beltId}
 use Rattle.plan.specs.Reading.{IsBelt}
 use Rattle.route.specs.declared.path.Route.{Route}
 use Rattle.route.specs.declared.sheet.Sheet.{Sheet}
-use Rattle.route.specs.declared.modes.Setting.{Setting}
-use Rattle.route.specs.declared.modes.Setting.the-variants.{Works, Nothing}
-use Rattle.route.specs.declared.check.Trip.{Trip}
-use Rattle.route.specs.Routes.{beltsNamed}
+use Rattle.route.specs.declared.modes.Lowest.{Lowest}
+use Rattle.route.specs.declared.modes.Lowest.the-variants.{Works, Nothing}
+use Rattle.route.specs.declared.path.Trip.{Trip}
+use Rattle.route.specs.Routes.{beltsByName}
 use Rattle.route.specs.Sheets.{sheetOf, beltsOn, costOn, settingOn}
 use Rattle.route.specs.Refusals.{Case}
 
@@ -40,7 +40,7 @@ pub record Known (b : List ℕ) (r : Route) : Type 0 where
   pub belts : (e : ℕ) → List·Memᴰ e (idsOf r) → IsBelt b e
 
 abbrev pub routeIn : List ℕ → Route → List Belt
-routeIn b r = beltsNamed (planOf b) (idsOf r)
+routeIn b r = beltsByName (planOf b) (idsOf r)
 
 unfoldable pub marksOf : List ℕ → List Bool
 marksOf es = map (λ (e : ℕ). mem e es) (upto 0 2048)
@@ -54,7 +54,7 @@ sheetIn h = record { route = packed (beltsOn h); cost = costOn h; setting = sett
 abbrev pub bytesOf : Sheet → List ℕ
 bytesOf v = sheetOf (idsOf (v .route)) (v .cost) (v .setting)
 
-abbrev pub settingIn : Setting → Option ℕ
+abbrev pub settingIn : Lowest → Option ℕ
 settingIn (Works σ) = some σ
 settingIn Nothing = none
 

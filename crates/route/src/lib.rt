@@ -8,5 +8,5 @@
 pub mod check;
 pub mod modes;
 pub mod path;
-pub mod rules;
+mod rules;
 pub mod sheet;

@@ -12,21 +12,22 @@ ghost use Rattle.route.specs.Permission.{passes, allMet, find, lowest};
 ghost use Rattle.route.specs.Values.{Known, routeIn, marked, settingIn};
 
 // The lowest setting that works, or that none does.
-pub enum Setting {
+pub enum Lowest {
     Works(u16),
     Nothing,
 }
 
-// Settles the modes up to this one, the higher ones being as `setting` has them: the lowest setting that works.
-fn settle(p: &[u8], on: &[bool; 2048], mode: ModeId, setting: u16) -> Setting
+// Settles the modes from this one down to 1, the higher ones being as `setting` has them: the lowest setting that works.
+// ModeId(0) says that no mode is left.
+fn settle(p: &[u8], on: &[bool; 2048], mode: ModeId, setting: u16) -> Lowest
     requires { ⌜ Accepted (now p) × (mode .0 ≤ 10) × (setting + 2 ^ mode .0 ≤ 1024) ⌝ }
     ensures { λ v. ⌜ settingIn v ≡ find (allMet (planOf (now (p .entry)) .rules) (marked (now (on .entry)))) (run setting (2 ^ mode .0)) ⌝ }
 {
     if mode.0 == 0 {
         if rules::all_met(p, on, setting) {
-            Setting::Works(setting)
+            Lowest::Works(setting)
         } else {
-            Setting::Nothing
+            Lowest::Nothing
         }
     } else {
         try_both(p, on, mode, setting)
@@ -34,21 +35,21 @@ fn settle(p: &[u8], on: &[bool; 2048], mode: ModeId, setting: u16) -> Setting
 }
 
 // Tries both positions of a mode, off before on.
-fn try_both(p: &[u8], on: &[bool; 2048], mode: ModeId, setting: u16) -> Setting
+fn try_both(p: &[u8], on: &[bool; 2048], mode: ModeId, setting: u16) -> Lowest
     requires { ⌜ Accepted (now p) × (1 ≤ mode .0) × (mode .0 ≤ 10) × (setting + 2 ^ mode .0 ≤ 1024) ⌝ }
     ensures { λ v. ⌜ settingIn v ≡ find (allMet (planOf (now (p .entry)) .rules) (marked (now (on .entry)))) (run setting (2 ^ mode .0)) ⌝ }
 {
     let lower = mode.0 - 1;
-    let with = setting + (1u16 << lower);
+    let with_mode = setting + (1u16 << lower);
     let off = settle(p, on, ModeId(lower), setting);
     match off {
-        Setting::Works(low) => Setting::Works(low),
-        Setting::Nothing => settle(p, on, ModeId(lower), with),
+        Lowest::Works(low) => Lowest::Works(low),
+        Lowest::Nothing => settle(p, on, ModeId(lower), with_mode),
     }
 }
 
 // The lowest setting under which the route meets every rule: the rule test of a route.
-pub fn lowest_setting(p: &[u8], route: Route) -> Setting
+pub fn lowest_setting(p: &[u8], route: Route) -> Lowest
     requires { ⌜ Accepted (now p) × Known (now p) route ⌝ }
     ensures { λ v. ⌜ settingIn v ≡ lowest (planOf (now (p .entry)) .rules) (planOf (now (p .entry)) .modes) (passes (routeIn (now (p .entry)) route)) ⌝ }
 {

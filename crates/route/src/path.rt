@@ -1,18 +1,47 @@
-// A route's belts: whether they are the plan's, whether they connect, and what they cost.
+// Routes: what is asked of one, and its belts: whether they are the plan's, whether they connect, and what they cost.
 use plan::read;
 use plan::read::BeltId;
 ghost use mathlib.Core.Path.{_≡_};
 ghost use Prim.Native.Nat.{ℕ, _≤_, _<_};
-ghost use Rattle.plan.specs.Lists.{all, mem};
+ghost use mathlib.Core.Bool.{not};
+ghost use Rattle.plan.specs.Lists.{all, mem, within};
 ghost use Rattle.plan.specs.Plan.{planOf, namesOf};
 ghost use Rattle.plan.specs.Reading.{Accepted};
-ghost use Rattle.route.specs.Routes.{connects, cost};
+ghost use Rattle.route.specs.Routes.{wrongEnds, connects, cost, costLimit};
 ghost use Rattle.route.specs.Values.{idsOf, Known, routeIn};
+
+// What a route is asked or checked for: it leads from junction s to junction t.
+pub struct Trip {
+    pub s: u64,
+    pub t: u64,
+}
 
 // A route: its belts in order are the first `count` of the array.
 pub struct Route {
     pub count: usize,
     pub belts: [BeltId; 255],
+}
+
+// Whether a number is no junction of the plan.
+fn outside(p: &[u8], j: u64) -> bool
+    requires { ⌜ Accepted (now p) ⌝ }
+    ensures { λ v. ⌜ v ≡ not (within 1 j (planOf (now (p .entry)) .junctions)) ⌝ }
+{
+    if j == 0 {
+        return true;
+    }
+    (read::junctions(p) as u64) < j
+}
+
+// Line 8 of the refusal table: whether s or t is no junction of the plan.
+pub fn wrong_ends(p: &[u8], trip: Trip) -> bool
+    requires { ⌜ Accepted (now p) ⌝ }
+    ensures { λ v. ⌜ v ≡ wrongEnds (planOf (now (p .entry))) (trip .s) (trip .t) ⌝ }
+{
+    if outside(p, trip.s) {
+        return true;
+    }
+    outside(p, trip.t)
 }
 
 // Whether every belt of the route is a belt of the plan.
@@ -54,7 +83,7 @@ pub fn connects(p: &[u8], route: Route, s: usize, t: usize) -> bool
 // The cost of the route, the sum of its belts' costs.
 pub fn cost(p: &[u8], route: Route) -> u64
     requires { ⌜ Accepted (now p) × Known (now p) route ⌝ }
-    ensures { λ v. ⌜ (v ≡ cost (routeIn (now (p .entry)) route)) × (v < 281474976710656) ⌝ }
+    ensures { λ v. ⌜ (v ≡ cost (routeIn (now (p .entry)) route)) × (v < costLimit) ⌝ }
 {
     let belts = route.belts;
     let mut sum = 0;

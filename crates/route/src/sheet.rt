@@ -8,6 +8,7 @@ ghost use mathlib.Core.List.{_++_};
 ghost use Prim.Native.Nat.{_+_, _*_, _≤_, _<_};
 ghost use lib.ListN.{length, drop};
 ghost use Rattle.plan.specs.Records.{fieldBytes, recordOf};
+ghost use Rattle.route.specs.Routes.{costLimit};
 ghost use Rattle.route.specs.Sheets.{nextOf, headOf, stepsFrom, steps, headFits, stepFits, inForm, beltsOn, costOn};
 ghost use Rattle.route.specs.Values.{idsOf, packed, sheetIn, bytesOf};
 ghost use Rattle.route.specs.Inner.{placed};
@@ -167,7 +168,7 @@ fn put_record(out: &mut [u8], i: usize, f0: u16, f1: u16, f2: u16, f3: u16, f4: 
 
 // Record 0 of a sheet with so many steps.
 fn put_head(out: &mut [u8], count: usize, cost: u64, setting: u16)
-    requires { ⌜ (count ≤ 255) × (cost < 281474976710656) × (12 ≤ length (now out)) ⌝ }
+    requires { ⌜ (count ≤ 255) × (cost < costLimit) × (12 ≤ length (now out)) ⌝ }
     ensures { λ _. ⌜ now (out .exit) ≡ placed (now (out .entry)) 0 (headOf count cost setting) ⌝ }
 {
     let high = (cost / 4294967296) as u16;
@@ -193,7 +194,7 @@ fn put_steps(out: &mut [u8], route: Route)
 
 // Writes the sheet to the start of the buffer, and answers its length. Bytes behind it do not change.
 pub fn write(out: &mut [u8], sheet: Sheet) -> usize
-    requires { ⌜ (sheet .route .count ≤ 255) × (sheet .cost < 281474976710656) × (12 * sheet .route .count + 12 ≤ length (now out)) ⌝ }
+    requires { ⌜ (sheet .route .count ≤ 255) × (sheet .cost < costLimit) × (12 * sheet .route .count + 12 ≤ length (now out)) ⌝ }
     ensures { λ v. ⌜ (v ≡ length (bytesOf sheet)) × (now (out .exit) ≡ bytesOf sheet ++ drop v (now (out .entry))) ⌝ }
 {
     let route = sheet.route;

@@ -10,9 +10,9 @@ use Rattle.route.specs.declared.sheet.Sheet.{Sheet}
 use Rattle.route.specs.Refusals.{Case, broken8}
 use Rattle.route.specs.Values.{idsOf, caseOf}
 use Rattle.route.specs.Sheets.{inForm, beltsOn}
-use Rattle.route.proofs.Named.{ids-packed}
+use Rattle.route.proofs.ByName.{ids-packed}
 use Rattle.route.proofs.Readings.{form-is, few-belts}
-use Rattle.route.proofs.Checked.{refused-plan, refused-8, no-form, said-refused, outside-s, outside-t, not-outside, ends-inside}
+use Rattle.route.proofs.Checked.{refused-plan, refused-8, no-form, content-refused, ends-wrong, ends-fine, ends-inside}
 use Rattle.route.proofs.check.check.Statement.{statement}
 use Rattle.route.proofs.check.check.Tie as tie
 
@@ -36,8 +36,8 @@ returns c =
     let start = c .before .before .before .before .before .before in
     c .of-plan .ensures ∙ answer ∙ sym (refused-plan (case start) (λ z. c .before .if1 .taken (number .ensures ∙ answer ∙ z)))
 
-outside-requires : tie.Need-outside-requires
-outside-requires c κs = search needs
+wrong-ends-requires : tie.Need-wrong-ends-requires
+wrong-ends-requires c κs = search needs
 
 -- past the test of the plan: it is accepted
 accepted : (c : tie.Else1) → Accepted (case (c .before .before .before .before .before) .plan)
@@ -47,61 +47,52 @@ returns-2 : tie.Need-returns-2
 returns-2 c =
     let past = c .before .before in
     let start = past .before .before .before .before .before in
-    sym (refused-8 (case start) (accepted past) (outside-s (case start) (sym (c .before .outside .ensures) ∙ c .if2 .taken)))
+    sym (refused-8 (case start) (accepted past) (ends-wrong (case start) (sym (c .before .wrong-ends .ensures) ∙ c .if2 .taken)))
 
-outside-requires-2 : tie.Need-outside-requires-2
-outside-requires-2 c κs = search needs
-
-returns-3 : tie.Need-returns-3
-returns-3 c =
-    let past = c .before .before .before .before in
-    let start = past .before .before .before .before .before in
-    sym (refused-8 (case start) (accepted past) (outside-t (case start) (sym (c .before .outside2 .ensures) ∙ c .if3 .taken)))
-
--- past the tests of s and t
-ends : (c : tie.Else3) → broken8 (case (c .before .before .before .before .before .before .before .before .before)) ≡ false
+-- past the test of s and t
+ends : (c : tie.Else2) → broken8 (case (c .before .before .before .before .before .before .before)) ≡ false
 ends c =
-    let start = c .before .before .before .before .before .before .before .before .before in
-    not-outside (case start) (sym (c .before .before .before .outside .ensures) ∙ c .before .before .if2 .left) (sym (c .before .outside2 .ensures) ∙ c .if3 .left)
+    let start = c .before .before .before .before .before .before .before in
+    ends-fine (case start) (sym (c .before .wrong-ends .ensures) ∙ c .if2 .left)
 
 in-form-requires : tie.Need-in-form-requires
 in-form-requires c κs = search needs
 
-returns-4 : tie.Need-returns-4
-returns-4 c =
+returns-3 : tie.Need-returns-3
+returns-3 c =
     let at = c .before .before in
-    let past = at .before .before .before .before in
+    let past = at .before .before in
     let start = past .before .before .before .before .before in
-    let this = sym (c .before .in-form .ensures) ∙ not-true (c .before .in-form .result) (c .if4 .taken) in
+    let this = sym (c .before .in-form .ensures) ∙ not-true (c .before .in-form .result) (c .if3 .taken) in
     sym (no-form (case start) (accepted past) (ends at) this)
 
 -- past the test of the form
-form : (c : tie.Else4) → inForm (case (c .before .before .before .before .before .before .before .before .before .before .before) .sheet) ≡ true
-form c = sym (c .before .in-form .ensures) ∙ not-false (c .before .in-form .result) (c .if4 .left)
+form : (c : tie.Else3) → inForm (case (c .before .before .before .before .before .before .before .before .before) .sheet) ≡ true
+form c = sym (c .before .in-form .ensures) ∙ not-false (c .before .in-form .result) (c .if3 .left)
 
 read-requires : tie.Need-read-requires
 read-requires c κs = form c
 
-check-said-requires : tie.Need-check-said-requires
-check-said-requires c κs =
+check-content-requires : tie.Need-check-content-requires
+check-content-requires c κs =
     let at = c .before .before .before in
-    let past = at .before .before .before .before in
+    let past = at .before .before in
     let start = past .before .before .before .before .before in
     let within = ends-inside (case start) (ends at) in
     let count : c .read .result .route .count ≡ length (beltsOn (start .args .h .now)) = ap (λ (v : Sheet). v .route .count) (c .read .ensures) in
     (accepted past, within .0, within .1, omega (arith, few-belts (start .args .h .now) (form-is (start .args .h .now) (form (c .before)))))
 
-returns-5 : tie.Need-returns-5
-returns-5 c =
+returns-4 : tie.Need-returns-4
+returns-4 c =
     let at = c .before .before .before .before in
-    let past = at .before .before .before .before in
+    let past = at .before .before in
     let start = past .before .before .before .before .before in
     let h = start .args .h .now in
     let formed = form (c .before .before) in
     let read = c .before .read .ensures in
     let ids = ap (λ (v : Sheet). idsOf (v .route)) read ∙ ids-packed (beltsOn h) (few-belts h (form-is h formed)) in
-    c .check-said .ensures
-    ∙ sym (said-refused (case start) (accepted past) (ends at) (c .before .read .result) formed ids (ap (λ (v : Sheet). v .cost) read) (ap (λ (v : Sheet). v .setting) read))
+    c .check-content .ensures
+    ∙ sym (content-refused (case start) (accepted past) (ends at) (c .before .read .result) formed ids (ap (λ (v : Sheet). v .cost) read) (ap (λ (v : Sheet). v .setting) read))
 
 pub check-spec : {M : Type 1} → statement M
 check-spec =
@@ -111,12 +102,10 @@ check-spec =
     number-requires
     of-plan-requires
     returns
-    outside-requires
+    wrong-ends-requires
     returns-2
-    outside-requires-2
-    returns-3
     in-form-requires
-    returns-4
+    returns-3
     read-requires
-    check-said-requires
-    returns-5)
+    check-content-requires
+    returns-4)

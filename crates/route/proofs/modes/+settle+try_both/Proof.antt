@@ -101,15 +101,15 @@ try-both-sub-lower :
     try-both-lts.Need-sub-lower (settle-below t, settle.Post) (try-both-at t) try-both.Post
 try-both-sub-lower t c = let start = c .before .before in omega (arith, start .pre .1 .1)
 
-try-both-shl-with :
+try-both-shl-with-mode :
     (t : ℕ) →
-    try-both-lts.Need-shl-with (settle-below t, settle.Post) (try-both-at t) try-both.Post
-try-both-shl-with t c = let start = c .before .before in omega (arith, start .pre .1 .2)
+    try-both-lts.Need-shl-with-mode (settle-below t, settle.Post) (try-both-at t) try-both.Post
+try-both-shl-with-mode t c = let start = c .before .before in omega (arith, start .pre .1 .2)
 
-try-both-add-with :
+try-both-add-with-mode :
     (t : ℕ) →
-    try-both-lts.Need-add-with (settle-below t, settle.Post) (try-both-at t) try-both.Post
-try-both-add-with t c =
+    try-both-lts.Need-add-with-mode (settle-below t, settle.Post) (try-both-at t) try-both.Post
+try-both-add-with-mode t c =
     let start = c .before .before in
     let m = start .args .mode .0 in
     let h = start .pre .1 in
@@ -190,8 +190,8 @@ pub +settle+try-both-spec : {M : Type 1} → statement M
     (try-both-at t)
     try-both.Post
     (try-both-sub-lower t)
-    (try-both-shl-with t)
-    (try-both-add-with t)
+    (try-both-shl-with-mode t)
+    (try-both-add-with-mode t)
     (try-both-settle-requires t)
     (try-both-enum-known-off t)
     (try-both-enum-told t)

@@ -1,4 +1,4 @@
--- `check::check_said` meets its contract: the first of the four lines that fails gives its number. Assumes nothing.
+-- `check::check_content` meets its contract: the first of the four lines that fails gives its number. Assumes nothing.
 use mathlib.Core.Path.{_≡_, sym, _∙_, ap}
 use mathlib.Core.Bool.{Bool, true, _&&_}
 use Prim.Native.Nat.{ℕ, _^_}
@@ -11,25 +11,25 @@ use Rattle.route.specs.Routes.{connects, cost}
 use Rattle.route.specs.Permission.{passes, allMet}
 use Rattle.route.specs.Values.{idsOf, Known, routeIn}
 use Rattle.route.specs.Inner.{sheetBy}
-use Rattle.route.proofs.Named.{known-belts}
-use Rattle.route.proofs.check.check_said.Statement.{statement}
-use Rattle.route.proofs.check.check_said.Tie as tie
+use Rattle.route.proofs.ByName.{known-belts}
+use Rattle.route.proofs.check.check_content.Statement.{statement}
+use Rattle.route.proofs.check.check_content.Tie as tie
 
 -- the four things that the lines ask
 abbrev belted : tie.Start → Bool
-belted c = all (λ (e : ℕ). mem e (namesOf (planOf (c .args .p .now) .belts))) (idsOf (c .args .said .route))
+belted c = all (λ (e : ℕ). mem e (namesOf (planOf (c .args .p .now) .belts))) (idsOf (c .args .sheet .route))
 
 abbrev low : tie.Start → Bool
-low c = ltb (c .args .said .setting) (2 ^ planOf (c .args .p .now) .modes)
+low c = ltb (c .args .sheet .setting) (2 ^ planOf (c .args .p .now) .modes)
 
 abbrev joined : tie.Start → Bool
-joined c = connects (c .args .s) (c .args .t) (routeIn (c .args .p .now) (c .args .said .route))
+joined c = connects (c .args .s) (c .args .t) (routeIn (c .args .p .now) (c .args .sheet .route))
 
 abbrev summed : tie.Start → Bool
-summed c = eqb (cost (routeIn (c .args .p .now) (c .args .said .route))) (c .args .said .cost)
+summed c = eqb (cost (routeIn (c .args .p .now) (c .args .sheet .route))) (c .args .sheet .cost)
 
 abbrev ruled : tie.Start → Bool
-ruled c = allMet (planOf (c .args .p .now) .rules) (passes (routeIn (c .args .p .now) (c .args .said .route))) (c .args .said .setting)
+ruled c = allMet (planOf (c .args .p .now) .rules) (passes (routeIn (c .args .p .now) (c .args .sheet .route))) (c .args .sheet .setting)
 
 are-belts-requires : tie.Need-are-belts-requires
 are-belts-requires c κs = search needs
@@ -47,12 +47,12 @@ is-setting-requires c κs = search needs
 are-known : (c : tie.Else1) → belted (c .before .before .before .before) ≡ true
 are-known c = sym (c .before .are-belts .ensures) ∙ not-false (c .before .are-belts .result) (c .if1 .left)
 
-known : (c : tie.Else1) → Known (c .before .before .before .before .args .p .now) (c .before .before .before .before .args .said .route)
+known : (c : tie.Else1) → Known (c .before .before .before .before .args .p .now) (c .before .before .before .before .args .sheet .route)
 known c =
     let start = c .before .before .before .before in
     record {
       few = start .pre .3;
-      belts = known-belts (start .pre .0) (idsOf (start .args .said .route)) (are-known c);
+      belts = known-belts (start .pre .0) (idsOf (start .args .sheet .route)) (are-known c);
     }
 
 returns-2 : tie.Need-returns-2
@@ -97,15 +97,15 @@ returns-4 c =
     let past = fits (at .before .before) in
     let way = joins at in
     let sum = c .before .before .cost in
-    let this = ap (λ (n : ℕ). eqb n (start .args .said .cost)) (sym (sum .ensures .0)) ∙ ne-eqb (sum .result) (start .args .said .cost) (c .if4 .taken) in
+    let this = ap (λ (n : ℕ). eqb n (start .args .sheet .cost)) (sym (sum .ensures .0)) ∙ ne-eqb (sum .result) (start .args .sheet .cost) (c .if4 .taken) in
     sym (λ i. sheetBy (past i) (way i) (this i) (ruled start))
 
 -- past the test of the cost
 sums : (c : tie.Else4) → summed (c .before .before .before .before .before .before .before .before .before .before .before) ≡ true
 sums c =
-    let said = c .before .before .before .before .before .before .before .before .before .before .before .args .said in
+    let sheet = c .before .before .before .before .before .before .before .before .before .before .before .args .sheet in
     let sum = c .before .before .cost in
-    ap (λ (n : ℕ). eqb n (said .cost)) (sym (sum .ensures .0)) ∙ eq-eqb (sum .result) (said .cost) (c .if4 .left)
+    ap (λ (n : ℕ). eqb n (sheet .cost)) (sym (sum .ensures .0)) ∙ eq-eqb (sum .result) (sheet .cost) (c .if4 .left)
 
 met-by-requires : tie.Need-met-by-requires
 met-by-requires c κs =
@@ -132,8 +132,8 @@ returns-6 c =
     let this = sym (c .before .met-by .ensures) ∙ not-false (c .before .met-by .result) (c .if5 .left) in
     sym (λ i. sheetBy (past i) (way i) (total i) (this i))
 
-pub check-said-spec : {M : Type 1} → statement M
-check-said-spec =
+pub check-content-spec : {M : Type 1} → statement M
+check-content-spec =
     tie.close
     (tie.spec
     are-belts-requires

@@ -35,7 +35,7 @@ use Rattle.plan.proofs.Lists.{both, and-is, all-in, keep-in, keep-none, in-map,
 use Rattle.plan.proofs.Rising.{Rises, more}
 use Rattle.plan.proofs.Reading.{belt-in, name-belt, belts-rise, belt-ends, belts-cost}
 use Rattle.route.specs.declared.path.Route.{Route}
-use Rattle.route.specs.Routes.{IsRoute, connects, cost, beltsNamed}
+use Rattle.route.specs.Routes.{IsRoute, connects, cost, beltsByName}
 use Rattle.route.specs.Values.{idsOf, packed, Known, routeIn}
 
 -- ---- the belt of a name
@@ -64,12 +64,12 @@ module _ {b : List ℕ} (ok : Accepted b) where
   the-named : (x : Belt) → List·Memᴰ x (planOf b .belts) → keep (λ (y : Belt). eqb (y .name) (x .name)) (planOf b .belts) ≡ x ∷ []
   the-named x m = one-named x (planOf b .belts) (belts-rise ok) m
 
-  pub named-map : (es : List ℕ) → ((e : ℕ) → List·Memᴰ e es → IsBelt b e) → beltsNamed (planOf b) es ≡ map (beltAt b) es
+  pub named-map : (es : List ℕ) → ((e : ℕ) → List·Memᴰ e es → IsBelt b e) → beltsByName (planOf b) es ≡ map (beltAt b) es
   named-map [] h = refl
   named-map (e ∷ es) h =
       λ i. the-named (beltAt b e) (belt-in ok e (h e (List·Memᴰ·head refl))) i ++ named-map es (λ f m. h f (List·Memᴰ·tail m)) i
 
-  pub names-belts : (r : List Belt) → ((e : Belt) → List·Memᴰ e r → List·Memᴰ e (planOf b .belts)) → beltsNamed (planOf b) (namesOf r) ≡ r
+  pub names-belts : (r : List Belt) → ((e : Belt) → List·Memᴰ e r → List·Memᴰ e (planOf b .belts)) → beltsByName (planOf b) (namesOf r) ≡ r
   names-belts [] h = refl
   names-belts (x ∷ r) h = λ i. the-named x (h x (List·Memᴰ·head refl)) i ++ names-belts r (λ f m. h f (List·Memᴰ·tail m)) i
 
@@ -93,7 +93,7 @@ module _ {b : List ℕ} (ok : Accepted b) where
   route-cost bytes s t [] h = omega arith
   route-cost bytes s t (e ∷ r) h = omega (arith, belts-cost ok bytes e (h .0), route-cost bytes (e .leads) t r (h .2))
 
-pub named-in : (p : Plan) (es : List ℕ) (e : Belt) → List·Memᴰ e (beltsNamed p es) → List·Memᴰ e (p .belts)
+pub named-in : (p : Plan) (es : List ℕ) (e : Belt) → List·Memᴰ e (beltsByName p es) → List·Memᴰ e (p .belts)
 named-in p es e m =
     let (n, i, k) = joined-in (λ (n : ℕ). keep (λ (x : Belt). eqb (x .name) n) (p .belts)) es m in
     keep-in (λ (x : Belt). eqb (x .name) n) (p .belts) k .0

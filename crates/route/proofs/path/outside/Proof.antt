@@ -1,4 +1,4 @@
--- `check::outside` meets its contract. Assumes nothing.
+-- `path::outside` meets its contract. Assumes nothing.
 use mathlib.Core.Path.{_≡_, refl, sym, _∙_, ap}
 use mathlib.Core.Bool.{Bool, not, _&&_}
 use Prim.Native.Nat.{ℕ}
@@ -8,8 +8,8 @@ use borrow.Author.Needs.{needs}
 use borrow.Author.Tests.{le-leb, lt-leb}
 use Rattle.plan.specs.Plan.{planOf}
 use Rattle.plan.proofs.Lists.{leb-not}
-use Rattle.route.proofs.check.outside.Statement.{statement}
-use Rattle.route.proofs.check.outside.Tie as tie
+use Rattle.route.proofs.path.outside.Statement.{statement}
+use Rattle.route.proofs.path.outside.Tie as tie
 
 returns : tie.Need-returns
 returns c =
