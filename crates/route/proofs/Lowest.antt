@@ -25,7 +25,6 @@ use lib.Pow.{pow-mono}
 use lib.Dec.{leb, lit<}
 use borrow.Author.Tests.{leb-true, leb-false}
 use Rattle.plan.specs.Lists.{run}
-use Rattle.plan.specs.Plan.{planOf}
 use Rattle.plan.proofs.Lists.{test, never, run-split}
 use Rattle.route.specs.Permission.{passes, allMet, Permitted, orElse, find}
 use Rattle.route.specs.Claims.{LowestClaim}
