@@ -1,0 +1,16 @@
+// Runs the check of route sheets on the cases of standard input, which are built field by field, and prints for each its name and the
+// number answered: 0 where the sheet is accepted, else the line of the paper's refusal table. Of some routes it prints the lowest setting
+// and the sheet that is written. The cases are in the file `stdin`, and what `stdout` says of them is taken from the paper.
+//
+//   script    the lines of the input: remarks, plans and cases
+//   plans     the plans and sheets that the lines start from, among them plan P of the paper
+//   answers   what is printed of a case
+mod answers;
+mod plans;
+mod script;
+
+fn main() {
+    let mut buf = io::large_buffer();
+    let n = io::read_full(0, &mut buf);
+    script::run(&buf[..n]);
+}
