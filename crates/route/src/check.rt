@@ -40,7 +40,7 @@ pub enum SheetVerdict {
     UnmetRule,
 }
 
-// The finding of a plan's verdict.
+// The verdict on a sheet whose plan got this verdict.
 fn of_plan(verdict: Verdict) -> SheetVerdict
     ensures { λ v. ⌜ sheetNumber v ≡ numberOf verdict ⌝ }
 {
@@ -105,11 +105,11 @@ pub fn check(p: &[u8], trip: Trip, h: &[u8]) -> SheetVerdict
     check_content(p, trip.s as usize, trip.t as usize, sheet::read(h))
 }
 
-// The table's number of a finding, 0 where the sheet is accepted.
-pub fn number(finding: SheetVerdict) -> u8
-    ensures { λ v. ⌜ v ≡ sheetNumber finding ⌝ }
+// The number of the broken line, 0 where the sheet is accepted.
+pub fn number(verdict: SheetVerdict) -> u8
+    ensures { λ v. ⌜ v ≡ sheetNumber verdict ⌝ }
 {
-    match finding {
+    match verdict {
         SheetVerdict::Accepted => 0,
         SheetVerdict::WrongSize => 1,
         SheetVerdict::WrongHeader => 2,
