@@ -18,7 +18,8 @@ use mathlib.Core.Bool.{Bool, true, _&&_}
 use Prim.Native.Nat.{ℕ, zero, suc, _+_, _*_, _-_, _/_, _%_, _≤_, _<_}
 use mathlib.Core.List.{List, [], _∷_, _++_, map, List·Memᴰ}
 use native.Mathlib.Omega.{arith}
-use lib.ListN.{length, getD, drop, length-map, drop-of-length-le}
+use lib.ListN.{length, getD, take, drop, length-map, length-take, drop-of-length-le}
+use Rattle.plan.specs.declared.read.BeltId.{BeltId}
 use lib.Seq.{getD-append-add, drop-cons}
 use lib.Dec.{eqb}
 use borrow.Author.Tests.{eqb-true, eq-eqb}
@@ -227,9 +228,14 @@ round-trip h es c σ r =
     (is-form (sheetOf es c σ) (form-back es c σ (r .short)), belts-back es c σ, cost-back es c σ, setting-back es c σ)
 
 pub read-back : ReadBackClaim
-read-back v r =
-    let (form, belts, c, σ) = round-trip (bytesOf v) (idsOf (v .route)) (v .cost) (v .setting) r in
-    (form, λ i. record { route = packed (belts i); cost = c i; setting = σ i })
+read-back v few fits =
+    let es : List ℕ = idsOf (v .route) in
+    let taken : List BeltId = take (v .route .count) (v .route .belts) in
+    let short : length es ≤ 255 =
+    omega (arith, few, length-map taken (λ (e : BeltId). e .0), length-take (v .route .count) (v .route .belts)) in (
+      is-form (bytesOf v) (form-back es (v .cost) (v .setting) short),
+      λ i. record { route = packed (belts-back es (v .cost) (v .setting) i); cost = cost-back es (v .cost) (v .setting) i; setting = setting-back es (v .cost) (v .setting) i },
+    )
 
 pub one-reading : OneReadingClaim
 one-reading h es fs c d σ τ r s =

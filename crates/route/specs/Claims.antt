@@ -18,7 +18,7 @@
 -- Sheets:
 --   ReadingClaim       bytes are in the form of a sheet exactly when they have a reading, which is what stands in their fields
 --   OneReadingClaim    a sheet has at most one reading
---   RoundTripClaim     a sheet reads as what was written; ReadBackClaim: and the code reads back what it wrote
+--   RoundTripClaim     a sheet reads as what was written; ReadBackClaim: and the code reads back whatever `sheet::write` may be given
 --   FirstRefusalClaim  the check answers n exactly when n is the number of the first broken line, and 0 exactly when none is broken
 --   CheckClaim         DEMAND 2: the check accepts exactly when lines 1 to 8 are unbroken and the sheet reads as belts, cost and setting
 --                      that are a feasible solution (Solution) of the instance
@@ -39,7 +39,7 @@ use Rattle.route.specs.Lcsp.{Var, Lit, Formula, IsAssignment, _∥_, Sat
 use Rattle.plan.specs.declared.read.Literal.{Literal}
 use Rattle.route.specs.declared.path.Trip.{Trip}
 use Rattle.route.specs.declared.sheet.Sheet.{Sheet}
-use Rattle.route.specs.Routes.{wrongEnds, IsRoute, cost, before, routes, Distinct}
+use Rattle.route.specs.Routes.{wrongEnds, IsRoute, cost, costLimit, before, routes, Distinct}
 use Rattle.route.specs.Permission.{passes, allMet, Permitted, lowest}
 use Rattle.route.specs.Instances.{arcOf, instanceOf, joint}
 use Rattle.route.specs.Sheets.{sheetOf, Reads, inForm, beltsOn, costOn, settingOn}
@@ -107,7 +107,7 @@ abbrev pub RoundTripClaim : Type 0
 RoundTripClaim = (h es : List ℕ) (c σ : ℕ) → Reads h es c σ → (inForm h ≡ true) × (beltsOn h ≡ es) × (costOn h ≡ c) × (settingOn h ≡ σ)
 
 abbrev pub ReadBackClaim : Type 0
-ReadBackClaim = (v : Sheet) → Reads (bytesOf v) (idsOf (v .route)) (v .cost) (v .setting)
+ReadBackClaim = (v : Sheet) → v .route .count ≤ 255 → v .cost < costLimit
     → (inForm (bytesOf v) ≡ true) × (sheetIn (bytesOf v) ≡ record { route = packed (idsOf (v .route)); cost = v .cost; setting = v .setting })
 
 abbrev pub FirstRefusalClaim : Type 0
