@@ -1,8 +1,8 @@
 -- The first broken line of the sheet check: lines of plans first, then those of cases.
 --
 --   refused-plan       a refused plan gives its own number
---   refused-8, refused-11 .. refused-14, none-refused
---                      with an accepted plan: the number, where a line is the first to be broken, and 0 where none is
+--   refused-8, none-refused
+--                      with an accepted plan: the number where line 8 is broken, and 0 where no line is
 --   no-form, content-refused
 --                      where the sheet is not in the form, and where it is and what it says decides
 --   Unrefused          no line is broken; zero-unrefused, unrefused-zero: exactly where the answer is 0
@@ -28,7 +28,7 @@ use Rattle.plan.specs.Reading.{Accepted}
 use Rattle.plan.proofs.Lists.{both, and-is, within-is, is-within, in-map, map-in}
 use Rattle.plan.proofs.First.{on-broken, on-unbroken, past, none-broken, first-exactly, passed}
 use Rattle.plan.proofs.Accepted.{unbroken}
-use Rattle.route.specs.Refusals.{Case, onPlan, broken8, broken11, broken12, broken13, broken14, routeOn, queryLines, sheetLines, checkLines, sheetRefusal}
+use Rattle.route.specs.Refusals.{Case, onPlan, broken8, broken11, broken12, broken13, broken14, queryLines, sheetLines, checkLines, sheetRefusal}
 use Rattle.route.specs.declared.sheet.Sheet.{Sheet}
 use Rattle.route.specs.Routes.{wrongEnds, connects, cost, beltsByName}
 use Rattle.route.specs.Permission.{passes, allMet}
@@ -72,20 +72,6 @@ refused-plan k h = plan-first k (line8 ∷ sheetLines) planLines h
 
 -- ---- lines of cases, the plan being accepted
 
--- the first broken one of lines 11 to 14
-abbrev linesBy : Bool → Bool → Bool → Bool → ℕ
-linesBy a b c d = elim a [ true ↦ 11 | false ↦ elim b [ true ↦ 12 | false ↦ elim c [ true ↦ 13 | false ↦ elim d [ true ↦ 14 | false ↦ 0 ] ] ] ]
-
-lines-sheet : (f x y b c d : Bool) → f ≡ true → linesBy (not (f && x && y)) (not b) (not c) (not d) ≡ sheetBy (x && y) b c d
-lines-sheet f x y b c d e = (λ i. linesBy (not (e i && x && y)) (not b) (not c) (not d)) ∙ go (x && y) b c d
-  where
-    go : (a b c d : Bool) → linesBy (not a) (not b) (not c) (not d) ≡ sheetBy a b c d
-    go false b c d = refl
-    go true false c d = refl
-    go true true false d = refl
-    go true true true false = refl
-    go true true true true = refl
-
 module _ (k : Case) (ok : Accepted (k .plan)) where
   behind : sheetRefusal k ≡ firstBroken (line8 ∷ sheetLines) k
   unfolding sheetRefusal
@@ -95,49 +81,33 @@ module _ (k : Case) (ok : Accepted (k .plan)) where
   refused-8 e = behind ∙ on-broken line8 sheetLines k e
 
   module _ (e8 : broken8 k ≡ false) where
-    by-sheet : sheetRefusal k ≡ linesBy (broken11 k) (broken12 k) (broken13 k) (broken14 k)
+    by-sheet : sheetRefusal k ≡ sheetBy (broken11 k) (broken12 k) (broken13 k) (broken14 k)
     by-sheet = behind ∙ on-unbroken line8 sheetLines k e8
 
-    -- where the sheet is in the form, what it says decides
+    -- the lines, by what the sheet holds
+    by : Bool → List ℕ → ℕ → ℕ → ℕ
+    by form es c σ =
+        let p = planOf (k .plan) in
+        let r = beltsByName p es in
+        sheetBy (not (form && all (λ (e : ℕ). mem e (namesOf (p .belts))) es && ltb σ (2 ^ p .modes))) (not (connects (k .s) (k .t) r))
+        (not (eqb (cost r) c)) (not (allMet (p .rules) (passes r) σ))
+
+    by-content : sheetRefusal k ≡ by (inForm (k .sheet)) (beltsOn (k .sheet)) (costOn (k .sheet)) (settingOn (k .sheet))
+    unfolding broken11 broken12 broken13 broken14 by
+    by-content = by-sheet
+
+    -- where the sheet is in the form, what it holds decides
     pub content-refused : (v : Sheet) → inForm (k .sheet) ≡ true → idsOf (v .route) ≡ beltsOn (k .sheet) → v .cost ≡ costOn (k .sheet)
         → v .setting ≡ settingOn (k .sheet) → sheetRefusal k ≡ contentRefusal (planOf (k .plan)) (k .s) (k .t) v
-    unfolding broken11 broken12 broken13 broken14
-    content-refused v form ids c σ =
-        by-sheet
-        ∙ lines-sheet (inForm (k .sheet)) (all (λ (e : ℕ). mem e (namesOf (planOf (k .plan) .belts))) (beltsOn (k .sheet)))
-        (ltb (settingOn (k .sheet)) (2 ^ planOf (k .plan) .modes)) (connects (k .s) (k .t) (routeOn k)) (eqb (cost (routeOn k)) (costOn (k .sheet)))
-        (allMet (planOf (k .plan) .rules) (passes (routeOn k)) (settingOn (k .sheet))) form
-        ∙ sym (λ i. by (ids i) (c i) (σ i))
-      where
-        by : List ℕ → ℕ → ℕ → ℕ
-        by es c σ =
-            sheetBy (all (λ (e : ℕ). mem e (namesOf (planOf (k .plan) .belts))) es && ltb σ (2 ^ planOf (k .plan) .modes))
-            (connects (k .s) (k .t) (beltsByName (planOf (k .plan)) es)) (eqb (cost (beltsByName (planOf (k .plan)) es)) c)
-            (allMet (planOf (k .plan) .rules) (passes (beltsByName (planOf (k .plan)) es)) σ)
+    unfolding by
+    content-refused v form ids c σ = by-content ∙ (λ i. by (form i) (sym ids i) (sym c i) (sym σ i))
 
     pub no-form : inForm (k .sheet) ≡ false → sheetRefusal k ≡ 11
-    unfolding broken11
-    no-form e =
-        by-sheet
-        ∙ (λ i. linesBy (not (e i && all (λ (e : ℕ). mem e (namesOf (planOf (k .plan) .belts))) (beltsOn (k .sheet)) && ltb (settingOn (k .sheet)) (2 ^ planOf (k .plan) .modes))) (broken12 k) (broken13 k) (broken14 k))
+    unfolding by
+    no-form e = by-content ∙ (λ i. by (e i) (beltsOn (k .sheet)) (costOn (k .sheet)) (settingOn (k .sheet)))
 
-    pub refused-11 : broken11 k ≡ true → sheetRefusal k ≡ 11
-    refused-11 e = by-sheet ∙ (λ i. linesBy (e i) (broken12 k) (broken13 k) (broken14 k))
-
-    module _ (e11 : broken11 k ≡ false) where
-      pub refused-12 : broken12 k ≡ true → sheetRefusal k ≡ 12
-      refused-12 e = by-sheet ∙ (λ i. linesBy (e11 i) (e i) (broken13 k) (broken14 k))
-
-      module _ (e12 : broken12 k ≡ false) where
-        pub refused-13 : broken13 k ≡ true → sheetRefusal k ≡ 13
-        refused-13 e = by-sheet ∙ (λ i. linesBy (e11 i) (e12 i) (e i) (broken14 k))
-
-        module _ (e13 : broken13 k ≡ false) where
-          pub refused-14 : broken14 k ≡ true → sheetRefusal k ≡ 14
-          refused-14 e = by-sheet ∙ (λ i. linesBy (e11 i) (e12 i) (e13 i) (e i))
-
-          none-refused : broken14 k ≡ false → sheetRefusal k ≡ 0
-          none-refused e = by-sheet ∙ (λ i. linesBy (e11 i) (e12 i) (e13 i) (e i))
+    none-refused : broken11 k ≡ false → broken12 k ≡ false → broken13 k ≡ false → broken14 k ≡ false → sheetRefusal k ≡ 0
+    none-refused a b c d = by-sheet ∙ (λ i. sheetBy (a i) (b i) (c i) (d i))
 
 -- ---- what unbroken lines say
 

@@ -8,7 +8,7 @@
 --
 -- Assumes nothing.
 use Prim.Native.Nat.{ℕ, _+_, _^_, _≤_, _<_}
-use mathlib.Core.Bool.{Bool, true, false, _&&_}
+use mathlib.Core.Bool.{Bool, true, false, not, _&&_}
 use mathlib.Core.List.{List, _++_, List·Memᴰ}
 use lib.ListN.{length, take, drop}
 use lib.Dec.{eqb, ltb}
@@ -33,19 +33,15 @@ abbrev pub Nameable : Literal → Type 0
 Nameable (OfBelt e wanted) = e .0 < 2048
 Nameable (OfMode m wanted) = (1 ≤ m .0) × (m .0 ≤ 10)
 
--- by whether the sheet is one of the plan, its belts a route, its cost the sum and every rule met
+-- the first broken one of lines 11 to 14
 abbrev pub sheetBy : Bool → Bool → Bool → Bool → ℕ
-sheetBy false b c d = 11
-sheetBy true false c d = 12
-sheetBy true true false d = 13
-sheetBy true true true false = 14
-sheetBy true true true true = 0
+sheetBy a b c d = elim a [ true ↦ 11 | false ↦ elim b [ true ↦ 12 | false ↦ elim c [ true ↦ 13 | false ↦ elim d [ true ↦ 14 | false ↦ 0 ] ] ] ]
 
 abbrev pub contentRefusal : Plan → ℕ → ℕ → Sheet → ℕ
 contentRefusal p s t v =
     let r = beltsByName p (idsOf (v .route)) in
     sheetBy
-    (all (λ (e : ℕ). mem e (namesOf (p .belts))) (idsOf (v .route)) && ltb (v .setting) (2 ^ p .modes))
-    (connects s t r)
-    (eqb (cost r) (v .cost))
-    (allMet (p .rules) (passes r) (v .setting))
+    (not (all (λ (e : ℕ). mem e (namesOf (p .belts))) (idsOf (v .route)) && ltb (v .setting) (2 ^ p .modes)))
+    (not (connects s t r))
+    (not (eqb (cost r) (v .cost)))
+    (not (allMet (p .rules) (passes r) (v .setting)))

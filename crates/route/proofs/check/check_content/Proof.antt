@@ -1,6 +1,6 @@
 -- `check::check_content` meets its contract: the first of the four lines that fails gives its number. Assumes nothing.
 use mathlib.Core.Path.{_≡_, sym, _∙_, ap}
-use mathlib.Core.Bool.{Bool, true, _&&_}
+use mathlib.Core.Bool.{Bool, true, not, _&&_}
 use Prim.Native.Nat.{ℕ, _^_}
 use lib.Dec.{eqb, ltb}
 use borrow.Author.Needs.{needs}
@@ -38,7 +38,7 @@ returns : tie.Need-returns
 returns c =
     let start = c .before .before .before .before in
     let this = sym (c .before .are-belts .ensures) ∙ not-true (c .before .are-belts .result) (c .if1 .taken) in
-    sym (λ i. sheetBy (this i && low start) (joined start) (summed start) (ruled start))
+    sym (λ i. sheetBy (not (this i && low start)) (not (joined start)) (not (summed start)) (not (ruled start)))
 
 is-setting-requires : tie.Need-is-setting-requires
 is-setting-requires c κs = search needs
@@ -60,7 +60,7 @@ returns-2 c =
     let start = c .before .before .before .before .before .before in
     let past = are-known (c .before .before) in
     let this = sym (c .before .is-setting .ensures) ∙ not-true (c .before .is-setting .result) (c .if2 .taken) in
-    sym (λ i. sheetBy (past i && this i) (joined start) (summed start) (ruled start))
+    sym (λ i. sheetBy (not (past i && this i)) (not (joined start)) (not (summed start)) (not (ruled start)))
 
 -- past the test of the setting
 fits : (c : tie.Else2) → (belted (c .before .before .before .before .before .before) && low (c .before .before .before .before .before .before)) ≡ true
@@ -79,7 +79,7 @@ returns-3 c =
     let past = fits (c .before .before) in
     let start = c .before .before .before .before .before .before .before .before in
     let this = sym (c .before .connects .ensures) ∙ not-true (c .before .connects .result) (c .if3 .taken) in
-    sym (λ i. sheetBy (past i) (this i) (summed start) (ruled start))
+    sym (λ i. sheetBy (not (past i)) (not (this i)) (not (summed start)) (not (ruled start)))
 
 -- past the test of the route
 joins : (c : tie.Else3) → joined (c .before .before .before .before .before .before .before .before) ≡ true
@@ -98,7 +98,7 @@ returns-4 c =
     let way = joins at in
     let sum = c .before .before .cost in
     let this = ap (λ (n : ℕ). eqb n (start .args .sheet .cost)) (sym (sum .ensures .0)) ∙ ne-eqb (sum .result) (start .args .sheet .cost) (c .if4 .taken) in
-    sym (λ i. sheetBy (past i) (way i) (this i) (ruled start))
+    sym (λ i. sheetBy (not (past i)) (not (way i)) (not (this i)) (not (ruled start)))
 
 -- past the test of the cost
 sums : (c : tie.Else4) → summed (c .before .before .before .before .before .before .before .before .before .before .before) ≡ true
@@ -120,7 +120,7 @@ returns-5 c =
     let way = joins at in
     let total = sums sum in
     let this = sym (c .before .met-by .ensures) ∙ not-true (c .before .met-by .result) (c .if5 .taken) in
-    sym (λ i. sheetBy (past i) (way i) (total i) (this i))
+    sym (λ i. sheetBy (not (past i)) (not (way i)) (not (total i)) (not (this i)))
 
 returns-6 : tie.Need-returns-6
 returns-6 c =
@@ -130,7 +130,7 @@ returns-6 c =
     let way = joins at in
     let total = sums sum in
     let this = sym (c .before .met-by .ensures) ∙ not-false (c .before .met-by .result) (c .if5 .left) in
-    sym (λ i. sheetBy (past i) (way i) (total i) (this i))
+    sym (λ i. sheetBy (not (past i)) (not (way i)) (not (total i)) (not (this i)))
 
 pub check-content-spec : {M : Type 1} → statement M
 check-content-spec =
