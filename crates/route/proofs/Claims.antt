@@ -5,6 +5,8 @@ use Rattle.route.proofs.Plans.{plan-instance, cost-weight}
 use Rattle.route.proofs.Feasible.{met-claim, permitted-claim, paths-claim}
 use Rattle.route.proofs.Order.{order-claim, ends-claim}
 use Rattle.route.proofs.Enumeration.{routes-claim}
+use Rattle.route.proofs.Firsts.{relaxed-claim}
+use Rattle.route.proofs.Cut.{cut-claim}
 use Rattle.route.proofs.Lowest.{lowest-claim}
 use Rattle.route.proofs.Readings.{round-trip, read-back, one-reading, reading-claim}
 use Rattle.route.proofs.Checked.{first-refusal}
@@ -22,6 +24,8 @@ claims = record {
   order = order-claim;
   ends = ends-claim;
   routes = routes-claim;
+  relaxed = relaxed-claim;
+  cut = cut-claim;
   reading = reading-claim;
   one-reading = one-reading;
   round-trip = round-trip;

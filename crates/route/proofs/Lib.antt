@@ -6,6 +6,8 @@ pub mod Feasible
 pub mod ByName
 pub mod Order
 pub mod Enumeration
+pub mod Firsts
+pub mod Cut
 pub mod Lowest
 pub mod Held
 pub mod Marks

@@ -15,6 +15,10 @@
 --   OrderClaim         "comes before" is a strict total order on the routes from s to t
 --   EndsClaim          there is no route from s to t where s > t, and only the empty one where s = t
 --   RoutesClaim        `routes` lists exactly the routes from s to t, each once
+-- Subproblems:
+--   RelaxedClaim       `relaxed` is the one admitted route that comes before every other, and there is none exactly when no route is admitted
+--   CutClaim           a route from s to t has a belt g that leaves u exactly when s ≤ u < t and no other belt of the route leaves a
+--                      junction ≤ u and arrives at one > u
 -- Sheets:
 --   ReadingClaim       bytes are in the form of a sheet exactly when they have a reading, which is what stands in their fields
 --   OneReadingClaim    a sheet has at most one reading
@@ -41,6 +45,7 @@ use Rattle.route.specs.declared.path.Trip.{Trip}
 use Rattle.route.specs.declared.sheet.Sheet.{Sheet}
 use Rattle.route.specs.Routes.{wrongEnds, IsRoute, cost, costLimit, before, routes, Distinct}
 use Rattle.route.specs.Permission.{passes, allMet, Permitted, lowest}
+use Rattle.route.specs.Subproblems.{Subproblem, admits, relaxed, Restricts}
 use Rattle.route.specs.Instances.{arcOf, instanceOf, joint}
 use Rattle.route.specs.Sheets.{sheetOf, Reads, inForm, beltsOn, costOn, settingOn}
 use Rattle.route.specs.Refusals.{Case, queryLines, checkLines, sheetRefusal}
@@ -94,6 +99,19 @@ EndsClaim = (b : List ℕ) → Accepted b → (s t : ℕ) (r : List Belt) → Is
 abbrev pub RoutesClaim : Type 0
 RoutesClaim = (b : List ℕ) → Accepted b → (s t : ℕ)
     → ((r : List Belt) → List·Memᴰ r (routes (planOf b) s t) ↔ IsRoute (planOf b) s t r) × Distinct (routes (planOf b) s t)
+
+-- ---- subproblems
+
+abbrev pub RelaxedClaim : Type 0
+RelaxedClaim = (b : List ℕ) → Accepted b → (s t : ℕ) (x : Subproblem) →
+    ((r : List Belt) → (relaxed (planOf b) s t x ≡ some r)
+    ↔ (IsRoute (planOf b) s t r × (admits x r ≡ true)
+    × ((q : List Belt) → IsRoute (planOf b) s t q → admits x q ≡ true → (q ≡ r → ⊥) → before r q ≡ true)))
+    × ((relaxed (planOf b) s t x ≡ none) ↔ ((q : List Belt) → IsRoute (planOf b) s t q → admits x q ≡ true → ⊥))
+
+abbrev pub CutClaim : Type 0
+CutClaim = (b : List ℕ) → Accepted b → (s t : ℕ) (r : List Belt) → IsRoute (planOf b) s t r
+    → (g : Belt) → List·Memᴰ g (planOf b .belts) → (passes r (g .name) ≡ true) ↔ Restricts s t g r
 
 -- ---- sheets
 
@@ -156,6 +174,8 @@ pub record Claims : Type 0 where
   pub order : OrderClaim
   pub ends : EndsClaim
   pub routes : RoutesClaim
+  pub relaxed : RelaxedClaim
+  pub cut : CutClaim
   pub reading : ReadingClaim
   pub one-reading : OneReadingClaim
   pub round-trip : RoundTripClaim

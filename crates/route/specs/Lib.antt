@@ -2,6 +2,7 @@
 pub mod Lcsp
 pub mod Routes
 pub mod Permission
+pub mod Subproblems
 pub mod Instances
 pub mod Sheets
 pub mod Refusals
