@@ -1,6 +1,7 @@
 -- `routes` lists exactly the routes from s to t, each once.
 --
---   routes-claim   the listed lists are the routes, and none is listed twice (RoutesClaim)
+--   keep-names-rise   what is kept of belts of rising names has rising names
+--   routes-claim      the listed lists are the routes, and none is listed twice (RoutesClaim)
 --
 -- Assumes nothing.
 use mathlib.Core.Path.{_≡_, refl, sym, ap, subst}
@@ -121,7 +122,7 @@ distinct-joined f d (e ∷ es) (more h r) =
         omega (arith, h (g .name) (in-map (λ (u : Belt). u .name) i))
 
 -- what is kept of belts of rising names has rising names
-keep-names-rise : (f : Belt → Bool) (xs : List Belt) → Rises (namesOf xs) → Rises (namesOf (keep f xs))
+pub keep-names-rise : (f : Belt → Bool) (xs : List Belt) → Rises (namesOf xs) → Rises (namesOf (keep f xs))
 keep-names-rise f [] r = r
 keep-names-rise f (x ∷ xs) (more h r) = go (f x) (keep-names-rise f xs r)
   where

@@ -8,6 +8,12 @@ pub mod Order
 pub mod Enumeration
 pub mod Firsts
 pub mod Cut
+pub mod Onward
+pub mod Looking
+pub mod Ways
+pub mod Passed
+pub mod Fixed
+pub mod Walked
 pub mod Lowest
 pub mod Held
 pub mod Marks

@@ -3,20 +3,23 @@
 --   sheetP            the sheet of E1: belt 5, cost 9, setting 0
 --   planE10           P with the only rule "not belt 4, or mode 1"
 --   planEmpty         P and a rule without literals
+--   planTwins         twin belts 4 and 5, and belt 6 that costs as much as either of them with belt 7
 use mathlib.Core.Path.{_≡_, refl}
 use mathlib.Core.Bool.{true}
 use mathlib.Core.Option.{none, some}
 use Prim.Native.Nat.{ℕ}
 use mathlib.Core.List.{List, [], _∷_, _++_, map}
 use Rattle.plan.specs.Records.{recordOf, rowOf, fits, linksAt, links}
-use Rattle.plan.specs.Plan.{planOf, named, namesOf}
+use Rattle.plan.specs.Plan.{Plan, planOf, named, namesOf}
 use Rattle.plan.specs.Refusals.{broken1, broken2, broken3, broken4, broken5, broken6, broken7}
 use Rattle.plan.specs.Examples.{planP}
 use Rattle.route.specs.Lcsp.{_∥_}
 use Rattle.route.specs.Routes.{before, routes, beltsByName}
 use Rattle.route.specs.Permission.{passes, lowest}
+use Rattle.route.specs.Subproblems.{Subproblem, relaxed}
 use Rattle.route.specs.Instances.{arcOf, instanceOf, joint}
 use Rattle.route.specs.Sheets.{sheetOf, inForm}
+use Rattle.route.specs.Values.{subproblemIn}
 use Rattle.route.specs.Refusals.{broken8, broken11, broken12, broken13, broken14, sheetRefusal}
 
 -- ---- routes of P
@@ -98,6 +101,61 @@ planEmpty =
 empty-5 : lowestOf planEmpty (5 ∷ []) ≡ none
 unfolding planEmpty planOf
 empty-5 = refl
+
+-- ---- relaxed routes
+
+abbrev fixing : List ℕ → List ℕ → Subproblem
+fixing es fs = record { required = es; forbidden = fs }
+
+-- from 1 to 3 the rule of P is left aside
+P-relaxed : relaxed (planOf planP) 1 3 (fixing [] []) ≡ some (beltsByName (planOf planP) (4 ∷ 6 ∷ []))
+unfolding planP planOf relaxed
+P-relaxed = refl
+
+P-without-4 : relaxed (planOf planP) 1 3 (fixing [] (4 ∷ [])) ≡ some (beltsByName (planOf planP) (5 ∷ []))
+unfolding planP planOf relaxed
+P-without-4 = refl
+
+P-4-without-6 : relaxed (planOf planP) 1 3 (fixing (4 ∷ []) (6 ∷ [])) ≡ none
+unfolding planP planOf relaxed
+P-4-without-6 = refl
+
+-- belt 4 leaves 1, so no route from 2 has it
+P-from-2-with-4 : relaxed (planOf planP) 2 3 (fixing (4 ∷ []) []) ≡ none
+unfolding planP planOf relaxed
+P-from-2-with-4 = refl
+
+-- P names 4 and 6, at places 0 and 1
+P-masks : subproblemIn planP (record { required = 2; forbidden = 1 }) ≡ fixing (6 ∷ []) (4 ∷ [])
+unfolding planP planOf named
+P-masks = refl
+
+abbrev planTwins : Plan
+planTwins = record {
+  junctions = 3;
+  modes = 0;
+  belts =
+      record { name = 4; leaves = 1; leads = 2; cost = 3 }
+      ∷ record { name = 5; leaves = 1; leads = 2; cost = 3 }
+      ∷ record { name = 6; leaves = 1; leads = 3; cost = 7 }
+      ∷ record { name = 7; leaves = 2; leads = 3; cost = 4 }
+      ∷ [];
+  rules = [];
+}
+
+-- all three routes cost 7: the lower index at the first difference decides
+twins-relaxed : relaxed planTwins 1 3 (fixing [] []) ≡ some (beltsByName planTwins (4 ∷ 7 ∷ []))
+unfolding relaxed
+twins-relaxed = refl
+
+twins-without-4 : relaxed planTwins 1 3 (fixing [] (4 ∷ [])) ≡ some (beltsByName planTwins (5 ∷ 7 ∷ []))
+unfolding relaxed
+twins-without-4 = refl
+
+-- belt 6 jumps over junction 2, which belt 7 leaves
+twins-with-7 : relaxed planTwins 1 3 (fixing (7 ∷ []) (4 ∷ 5 ∷ [])) ≡ none
+unfolding relaxed
+twins-with-7 = refl
 
 -- ---- sheets
 

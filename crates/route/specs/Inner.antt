@@ -5,22 +5,47 @@
 --   Nameable l      what literal l names can be looked up: a belt below 2,048, a mode from 1 to 10
 --   contentRefusal p s t v
 --                   the first broken one of lines 11 to 14, or 0, by what a sheet in the form says
+-- Masks:
+--   LowPlace q      place q has a bit in a mask
+--   withPlace m q   the mask m with place q in it
+-- The relaxed route, found from t backwards:
+--   ahead p x t u   the subproblem that is left from u on: of the required belts those that leave u or a later junction before t
+--   wayFrom p x t u the way on: the relaxed route from u to t of what is left from u on; wayIn b f t u: the same by bytes and masks
+--   wayCost o       the cost of a way on; costLimit, which no route costs, if there is none
+--   wayOver costs limit forbidden e
+--                   the cost of the cheapest way on by belt e, where costs has those of the ways on from later junctions
+--   preferred way e c required
+--                   the way on from a junction, once its belt e is looked at, by which it costs c; noWay: before the first
+--   wayBy x costs limit way es
+--                   the same once all the belts es are looked at
+--   Guides b f t s firsts
+--                   from s on each way on begins with the belt that firsts has for its junction
+--   complete x o    the route o, if it has every required belt
 --
 -- Assumes nothing.
+use mathlib.Core.Path.{_≡_}
 use Prim.Native.Nat.{ℕ, _+_, _^_, _≤_, _<_}
-use mathlib.Core.Bool.{Bool, true, false, not, _&&_}
-use mathlib.Core.List.{List, _++_, List·Memᴰ}
-use lib.ListN.{length, take, drop}
-use lib.Dec.{eqb, ltb}
-use Rattle.plan.specs.Lists.{all, mem}
-use Rattle.plan.specs.Plan.{Plan, namesOf}
+use mathlib.Core.Bool.{Bool, true, false, not, _&&_, _||_}
+use mathlib.Core.Option.{Option, none, some}
+use mathlib.Core.List.{List, [], _∷_, _++_, List·Memᴰ}
+use lib.Bits.{bitOr}
+use lib.ListN.{length, getD, take, drop}
+use lib.Dec.{eqb, leb, ltb}
+use Rattle.plan.specs.declared.read.BeltId.{BeltId}
+use Rattle.plan.specs.declared.named.Place.{Place}
+use Rattle.plan.specs.declared.named.Place.the-variants.{At, Unnamed}
+use Rattle.plan.specs.Lists.{all, keep, mem}
+use Rattle.plan.specs.Plan.{Belt, Plan, planOf, namesOf, beltId}
 use Rattle.plan.specs.declared.read.Literal.{Literal}
 use Rattle.plan.specs.declared.read.Literal.the-variants.{OfBelt, OfMode}
 use Rattle.route.specs.declared.path.Route.{Route}
 use Rattle.route.specs.declared.sheet.Sheet.{Sheet}
-use Rattle.route.specs.Routes.{connects, cost, beltsByName}
+use Rattle.route.specs.declared.relax.Fixings.{Fixings}
+use Rattle.route.specs.declared.relax.Way.{Way}
+use Rattle.route.specs.Routes.{connects, cost, costLimit, beltsByName}
 use Rattle.route.specs.Permission.{passes, allMet}
-use Rattle.route.specs.Values.{idsOf}
+use Rattle.route.specs.Subproblems.{Subproblem, relaxed}
+use Rattle.route.specs.Values.{idsOf, subproblemIn}
 
 abbrev pub placed : List ℕ → ℕ → List ℕ → List ℕ
 placed l i vs = take i l ++ vs ++ drop (i + length vs) l
@@ -45,3 +70,65 @@ contentRefusal p s t v =
     (not (connects s t r))
     (not (eqb (cost r) (v .cost)))
     (not (allMet (p .rules) (passes r) (v .setting)))
+
+-- ---- masks
+
+abbrev pub LowPlace : Place → Type 0
+LowPlace (At k) = k < 64
+LowPlace Unnamed = Unit {0}
+
+abbrev pub withPlace : ℕ → Place → ℕ
+withPlace m (At k) = bitOr m (2 ^ k)
+withPlace m Unnamed = m
+
+-- ---- the relaxed route
+
+abbrev pub ahead : Plan → Subproblem → ℕ → ℕ → Subproblem
+ahead p x t u = record {
+  required = namesOf (keep (λ (e : Belt). mem (e .name) (x .required) && (leb u (e .leaves) && ltb (e .leaves) t)) (p .belts));
+  forbidden = x .forbidden;
+}
+
+abbrev pub wayFrom : Plan → Subproblem → ℕ → ℕ → Option (List Belt)
+wayFrom p x t u = relaxed p u t (ahead p x t u)
+
+abbrev pub wayIn : List ℕ → Fixings → ℕ → ℕ → Option (List Belt)
+wayIn b f t u = wayFrom (planOf b) (subproblemIn b f) t u
+
+abbrev pub wayCost : Option (List Belt) → ℕ
+wayCost none = costLimit
+wayCost (some r) = cost r
+
+abbrev pub onBy : Belt → ℕ → ℕ
+onBy e c = elim (eqb c costLimit) [ true ↦ costLimit | false ↦ e .cost + c ]
+
+abbrev pub wayOver : List ℕ → ℕ → Bool → Belt → ℕ
+wayOver costs limit forbidden e = elim (forbidden || ltb limit (e .leads)) [ true ↦ costLimit | false ↦ onBy e (getD costs (e .leads) 0) ]
+
+abbrev pub noWay : Way
+noWay = record { cost = costLimit; belt = beltId 0; required = false }
+
+abbrev pub preferred : Way → BeltId → ℕ → Bool → Way
+preferred way e c required =
+    elim required [
+      | true ↦ elim (way .required) [
+        | true ↦ record { cost = costLimit; belt = e; required = true }
+        | false ↦ record { cost = c; belt = e; required = true }
+      ]
+      | false ↦ elim (way .required) [
+        | true ↦ way
+        | false ↦ elim (ltb c (way .cost)) [ true ↦ record { cost = c; belt = e; required = false } | false ↦ way ]
+      ]
+    ]
+
+abbrev pub wayBy : Subproblem → List ℕ → ℕ → Way → List Belt → Way
+wayBy x costs limit way [] = way
+wayBy x costs limit way (e ∷ es) =
+    wayBy x costs limit (preferred way (beltId (e .name)) (wayOver costs limit (mem (e .name) (x .forbidden)) e) (mem (e .name) (x .required))) es
+
+abbrev pub Guides : List ℕ → Fixings → ℕ → ℕ → List BeltId → Type 0
+Guides b f t s firsts = (u : ℕ) (e : Belt) (r : List Belt) → s ≤ u → wayIn b f t u ≡ some (e ∷ r) → getD firsts u (beltId 0) ≡ beltId (e .name)
+
+abbrev pub complete : Subproblem → Option (List Belt) → Option (List Belt)
+complete x none = none
+complete x (some r) = elim (all (passes r) (x .required)) [ true ↦ some r | false ↦ none ]

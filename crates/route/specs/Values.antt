@@ -1,4 +1,4 @@
--- What the values that the code hands about mean. `Trip`, `Route`, `Sheet` and `Lowest` are declared by the code.
+-- What the values that the code hands about mean. `Trip`, `Route`, `Sheet`, `Lowest`, `Fixings` and `Relaxed` are declared by the code.
 --
 --   idsOf r          the names of the belts that a Route holds: the first `count` of its array
 --   packed es        the Route that holds the belts es, the rest of its array 0
@@ -8,24 +8,35 @@
 --   sheetIn h        the Sheet that the bytes h read as
 --   bytesOf v        the bytes of a Sheet
 --   settingIn v      the lowest setting, if there is one, that an answer stands for
+--   inMask m q       a mask has the place q: bit k is for place k
+--   fixedIn ns m     those of the named belts ns whose places a mask has, in rising index
+--   subproblemIn b f the subproblem of the plan b that the masks f stand for
+--   namedPlaces b    the places of the named belts of the plan b, as the code looks them up
+--   relaxedAs o      the answer that stands for a relaxed route, or for none
 --   caseOf b trip h  the case of the sheet check
 --
 -- Assumes nothing.
-use Prim.Native.Nat.{ℕ, _-_, _≤_}
-use mathlib.Core.Bool.{Bool, false}
+use Prim.Native.Nat.{ℕ, _-_, _/_, _%_, _^_, _≤_}
+use mathlib.Core.Bool.{Bool, true, false}
 use mathlib.Core.Option.{Option, none, some}
-use mathlib.Core.List.{List, _++_, map, List·Memᴰ}
+use mathlib.Core.List.{List, [], _++_, map, List·Memᴰ}
 use lib.ListN.{length, getD, take, replicate}
+use lib.Dec.{eqb}
 use Rattle.plan.specs.declared.read.BeltId.{BeltId}
-use Rattle.plan.specs.Lists.{mem, upto}
-use Rattle.plan.specs.Plan.{Belt, planOf, beltId}
+use Rattle.plan.specs.declared.named.Place.{Place}
+use Rattle.plan.specs.declared.named.Place.the-variants.{At, Unnamed}
+use Rattle.plan.specs.Lists.{keep, mem, upto}
+use Rattle.plan.specs.Plan.{Belt, planOf, namesOf, named, beltId, placeOf, placesOf}
 use Rattle.plan.specs.Reading.{IsBelt}
 use Rattle.route.specs.declared.path.Route.{Route}
 use Rattle.route.specs.declared.sheet.Sheet.{Sheet}
 use Rattle.route.specs.declared.modes.Lowest.{Lowest}
 use Rattle.route.specs.declared.modes.Lowest.the-variants.{Works, Nothing}
 use Rattle.route.specs.declared.path.Trip.{Trip}
-use Rattle.route.specs.Routes.{beltsByName}
+use Rattle.route.specs.declared.relax.Fixings.{Fixings}
+use Rattle.route.specs.declared.relax.Relaxed.{Relaxed}
+use Rattle.route.specs.Routes.{cost, beltsByName}
+use Rattle.route.specs.Subproblems.{Subproblem}
 use Rattle.route.specs.Sheets.{sheetOf, beltsOn, costOn, settingOn}
 use Rattle.route.specs.Refusals.{Case}
 
@@ -57,6 +68,27 @@ bytesOf v = sheetOf (idsOf (v .route)) (v .cost) (v .setting)
 abbrev pub settingIn : Lowest → Option ℕ
 settingIn (Works σ) = some σ
 settingIn Nothing = none
+
+-- ---- subproblems
+
+abbrev pub inMask : ℕ → Place → Bool
+inMask m (At k) = eqb (m / 2 ^ k % 2) 1
+inMask m Unnamed = false
+
+abbrev pub fixedIn : List ℕ → ℕ → List ℕ
+fixedIn ns m = keep (λ (e : ℕ). inMask m (placeOf ns e)) ns
+
+abbrev pub subproblemIn : List ℕ → Fixings → Subproblem
+subproblemIn b f = record { required = fixedIn (named (planOf b)) (f .required); forbidden = fixedIn (named (planOf b)) (f .forbidden) }
+
+abbrev pub namedPlaces : List ℕ → List ℕ
+namedPlaces b = placesOf (named (planOf b))
+
+abbrev pub relaxedAs : Option (List Belt) → Relaxed
+relaxedAs none = record { found = false; route = packed []; cost = 0 }
+relaxedAs (some r) = record { found = true; route = packed (namesOf r); cost = cost r }
+
+-- ---- the sheet check
 
 abbrev pub caseOf : List ℕ → Trip → List ℕ → Case
 caseOf b trip h = record { plan = b; s = trip .s; t = trip .t; sheet = h }

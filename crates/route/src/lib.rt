@@ -3,10 +3,14 @@
 //   path    a route's belts: whether they connect, and what they cost
 //   rules   whether every rule is met by a route under a setting of the modes
 //   modes   the lowest setting that meets every rule
+//   masks   sets of named belts
+//   relax   the relaxed route of a subproblem
 //   sheet   route sheets, written and read
 //   check   the check of a sheet: lines 1 to 8 and 11 to 14 of the refusal table
 pub mod check;
+mod masks;
 pub mod modes;
 pub mod path;
+pub mod relax;
 mod rules;
 pub mod sheet;

@@ -1,0 +1,237 @@
+-- Looking at the belts that leave a junction, one by one: what the way that is kept says of all of them.
+--
+--   price x costs limit e   the cost of the cheapest way on by belt e
+--   must x e                belt e is required
+--   Alone x es e            belt e stands alone: no other belt of es is required. A route has one belt that leaves a junction on its way, so that only a
+--                           belt that stands alone can be taken
+--   Looked x costs limit es way
+--                           of the belts of es that stand alone, way has the first of the cheapest (chosen), or there is no way on by any (blocked)
+--   looked                  this is so once the belts es, of rising names, are looked at
+--   looked-required         and then the way is marked exactly if one of them is required
+--
+-- There are two cases. Where no belt is required, each stands alone, and the first of the cheapest is kept. Where one is, it alone can
+-- stand alone, and it is kept whatever it costs; unless a second one is required too, and then none stands alone. Assumes nothing.
+use mathlib.Core.Path.{_≡_, refl, sym, _∙_, ap, subst}
+use mathlib.Core.Logic.{_⊎_, inl, inr}
+use mathlib.Core.Bool.{Bool, true, false, _||_, true≢false, or-false, or-assoc}
+use Prim.Native.Nat.{ℕ, _≤_, _<_}
+use mathlib.Core.List.{List, [], _∷_, List·Memᴰ, List·Memᴰ·head, List·Memᴰ·tail, List·Memᴰ·not-nil, List·Memᴰ·cases-cons}
+use native.Mathlib.Omega.{arith}
+use lib.Dec.{ltb}
+use borrow.Author.Tests.{ltb-true, ltb-false}
+use Rattle.plan.specs.declared.read.BeltId.{BeltId}
+use Rattle.plan.specs.Lists.{any, mem}
+use Rattle.plan.specs.Plan.{Belt, namesOf, beltId}
+use Rattle.plan.proofs.Lists.{test, never, neither, any-none, any-some, in-map}
+use Rattle.plan.proofs.Rising.{Rises, more}
+use Rattle.route.specs.declared.relax.Way.{Way}
+use Rattle.route.specs.Routes.{costLimit}
+use Rattle.route.specs.Subproblems.{Subproblem}
+use Rattle.route.specs.Inner.{wayOver, noWay, preferred, wayBy}
+
+abbrev pub price : Subproblem → List ℕ → ℕ → Belt → ℕ
+price x costs limit e = wayOver costs limit (mem (e .name) (x .forbidden)) e
+
+abbrev pub must : Subproblem → Belt → Bool
+must x e = mem (e .name) (x .required)
+
+abbrev pub Alone : Subproblem → List Belt → Belt → Type 0
+Alone x es e = (g : Belt) → List·Memᴰ g es → must x g ≡ true → g ≡ e
+
+-- ---- lists of belts
+
+-- what holds of the first and of all others holds of all
+each : (P : Belt → Type 0) (e : Belt) (es : List Belt) → P e → ((f : Belt) → List·Memᴰ f es → P f) → (f : Belt) → List·Memᴰ f (e ∷ es) → P f
+each P e es here rest f m = go (List·Memᴰ·cases-cons m)
+  where
+    go : (f ≡ e) ⊎ List·Memᴰ f es → P f
+    go (inl q) = subst P (sym q) here
+    go (inr k) = rest f k
+
+-- where names rise, the first belt has the lowest
+lowest-first : (e : Belt) (es : List Belt) → ((n : ℕ) → List·Memᴰ n (namesOf es) → e .name < n) → (f : Belt) → List·Memᴰ f es → e .name < f .name
+lowest-first e es h f m = h (f .name) (in-map (λ (g : Belt). g .name) m)
+
+-- ---- one belt more
+
+abbrev made : ℕ → BeltId → Bool → Way
+made k g w = record { cost = k; belt = g; required = w }
+
+-- of two ways by belts that are not required, the one that is kept
+abbrev cheaper : Bool → ℕ → BeltId → ℕ → BeltId → Way
+cheaper less c e k g = elim less [ true ↦ made c e false | false ↦ made k g false ]
+
+cheaper-required : (less : Bool) (c : ℕ) (e : BeltId) (k : ℕ) (g : BeltId) → cheaper less c e k g .required ≡ false
+cheaper-required true c e k g = refl
+cheaper-required false c e k g = refl
+
+preferred-required : (k : ℕ) (g : BeltId) (w : Bool) (e : BeltId) (c : ℕ) (r : Bool) → preferred (made k g w) e c r .required ≡ (w || r)
+preferred-required k g true e c true = refl
+preferred-required k g false e c true = refl
+preferred-required k g true e c false = refl
+preferred-required k g false e c false = cheaper-required (ltb c k) c e k g
+
+module _ (x : Subproblem) (costs : List ℕ) (limit : ℕ) where
+  pub data Looked (es : List Belt) (way : Way) : Type 0 where
+    blocked : way .cost ≡ costLimit → ((f : Belt) → List·Memᴰ f es → Alone x es f → costLimit ≤ price x costs limit f) → Looked es way
+    chosen : (e : Belt) → List·Memᴰ e es → Alone x es e → way .cost ≡ price x costs limit e → way .belt ≡ beltId (e .name)
+        → ((f : Belt) → List·Memᴰ f es → Alone x es f
+        → (price x costs limit e ≤ price x costs limit f) × (price x costs limit f ≡ price x costs limit e → e .name ≤ f .name))
+        → Looked es way
+
+  abbrev on : Belt → ℕ
+  on e = price x costs limit e
+
+  -- the way by belt e
+  abbrev by : Belt → Bool → Way
+  by e w = made (on e) (beltId (e .name)) w
+
+  -- the way once e is looked at, and once all of es are
+  abbrev then : Way → Belt → Bool → Way
+  then way e w = preferred way (beltId (e .name)) (on e) w
+
+  abbrev after : Way → List Belt → Way
+  after way es = wayBy x costs limit way es
+
+  -- a way is marked from the first required belt on
+  required-from : (way : Way) (es : List Belt) → after way es .required ≡ (way .required || any (must x) es)
+  required-from way [] = sym (or-false (way .required))
+  required-from way (e ∷ es) =
+      required-from (then way e (must x e)) es
+      ∙ ap (λ (w : Bool). w || any (must x) es) (preferred-required (way .cost) (way .belt) (way .required) (beltId (e .name)) (on e) (must x e))
+      ∙ or-assoc (way .required) (must x e) (any (must x) es)
+
+  pub looked-required : (es : List Belt) → wayBy x costs limit noWay es .required ≡ any (must x) es
+  looked-required es = required-from noWay es
+
+  -- ---- none is required: the first of the cheapest is kept
+
+  -- e is the first of the cheapest of es
+  record First (es : List Belt) (e : Belt) : Type 0 where
+    member : List·Memᴰ e es
+    least : (f : Belt) → List·Memᴰ f es → on e ≤ on f
+    early : (f : Belt) → List·Memᴰ f es → on f ≡ on e → e .name ≤ f .name
+
+  -- a way of cost k by belt g stays, or gives place to the first of the cheapest
+  abbrev Best : ℕ → BeltId → List Belt → Way → Type 0
+  Best k g es way =
+      ((way ≡ made k g false) × ((f : Belt) → List·Memᴰ f es → k ≤ on f)) ⊎ ((e : Belt) × (way ≡ by e false) × (on e < k) × First es e)
+
+  best : (k : ℕ) (g : BeltId) (es : List Belt) → Rises (namesOf es) → any (must x) es ≡ false → Best k g es (after (made k g false) es)
+  best k g [] r free = inl (refl, λ f m. absurd (List·Memᴰ·not-nil m))
+  best k g (e ∷ es) (more h r) free =
+      let (here, rest) = neither (must x e) (any (must x) es) free in
+      subst (λ (w : Bool). Best k g (e ∷ es) (after (then (made k g false) e w) es)) (sym here)
+      (go (ltb (on e) k) refl (λ j i. best j i es r rest))
+    where
+      first-here : ((f : Belt) → List·Memᴰ f es → on e ≤ on f) → First (e ∷ es) e
+      first-here least = record {
+        member = List·Memᴰ·head refl;
+        least = each (λ (f : Belt). on e ≤ on f) e es (omega arith) least;
+        early = each (λ (f : Belt). on f ≡ on e → e .name ≤ f .name) e es (λ q. omega arith) (λ f m q. omega (arith, lowest-first e es h f m));
+      }
+
+      first-later : (d : Belt) → on d < on e → First es d → First (e ∷ es) d
+      first-later d l v = record {
+        member = List·Memᴰ·tail (v .member);
+        least = each (λ (f : Belt). on d ≤ on f) e es (omega arith) (v .least);
+        early = each (λ (f : Belt). on f ≡ on d → d .name ≤ f .name) e es (λ q. absurd (omega arith)) (v .early);
+      }
+
+      taken : on e < k → (way : Way) → Best (on e) (beltId (e .name)) es way → Best k g (e ∷ es) way
+      taken l way (inl (s, least)) = inr (e, s, l, first-here least)
+      taken l way (inr (d, s, u, v)) = inr (d, s, omega arith, first-later d u v)
+
+      passed : k ≤ on e → (way : Way) → Best k g es way → Best k g (e ∷ es) way
+      passed l way (inl (s, least)) = inl (s, each (λ (f : Belt). k ≤ on f) e es l least)
+      passed l way (inr (d, s, u, v)) = inr (d, s, u, first-later d (omega arith) v)
+
+      go : (less : Bool) → ltb (on e) k ≡ less → ((j : ℕ) (i : BeltId) → Best j i es (after (made j i false) es))
+          → Best k g (e ∷ es) (after (cheaper less (on e) (beltId (e .name)) k g) es)
+      go true l below = taken (ltb-true (on e) k l) (after (by e false) es) (below (on e) (beltId (e .name)))
+      go false l below = passed (ltb-false (on e) k l) (after (made k g false) es) (below k g)
+
+  looked-free : (es : List Belt) → Rises (namesOf es) → any (must x) es ≡ false → Looked es (after noWay es)
+  looked-free es r free = go (best costLimit (beltId 0) es r free)
+    where
+      go : Best costLimit (beltId 0) es (after noWay es) → Looked es (after noWay es)
+      go (inl (s, least)) = blocked (ap (λ (w : Way). w .cost) s) (λ f m a. least f m)
+      go (inr (e, s, l, v)) =
+          chosen e (v .member) (λ g m q. absurd (never q (any-none (must x) es free m)))
+          (ap (λ (w : Way). w .cost) s) (ap (λ (w : Way). w .belt) s)
+          (λ f m a. (v .least f m, v .early f m))
+
+  -- ---- one is required: it drops the others, and a second one drops it
+
+  -- the way by a required belt g stays, unless there is a second one
+  abbrev Stays : ℕ → BeltId → Bool → Way → Type 0
+  Stays k g second way = ((way ≡ made k g true) × (second ≡ false)) ⊎ ((way .cost ≡ costLimit) × (second ≡ true))
+
+  stays : (k : ℕ) (g : BeltId) (es : List Belt) → Stays k g (any (must x) es) (after (made k g true) es)
+  stays k g [] = inl (refl, refl)
+  stays k g (e ∷ es) = go (must x e) (stays costLimit (beltId (e .name)) es) (stays k g es)
+    where
+      dropped : (second : Bool) (way : Way) → Stays costLimit (beltId (e .name)) second way → way .cost ≡ costLimit
+      dropped second way (inl (s, q)) = ap (λ (w : Way). w .cost) s
+      dropped second way (inr (s, q)) = s
+
+      go : (w : Bool) → Stays costLimit (beltId (e .name)) (any (must x) es) (after (made costLimit (beltId (e .name)) true) es)
+          → Stays k g (any (must x) es) (after (made k g true) es) → Stays k g (w || any (must x) es) (after (then (made k g true) e w) es)
+      go true rest below = inr (dropped (any (must x) es) (after (made costLimit (beltId (e .name)) true) es) rest, refl)
+      go false rest below = below
+
+  -- a belt that is not required, in front of one that is, does not stand alone
+  widened : (e : Belt) (es : List Belt) → must x e ≡ false → any (must x) es ≡ true → (way : Way) → Looked es way → Looked (e ∷ es) way
+  widened e es h some way known = go known
+    where
+      inner : (f : Belt) → List·Memᴰ f (e ∷ es) → Alone x (e ∷ es) f → List·Memᴰ f es × Alone x es f
+      inner f m a = (later (List·Memᴰ·cases-cons m), λ g i q. a g (List·Memᴰ·tail i) q)
+        where
+          later : (f ≡ e) ⊎ List·Memᴰ f es → List·Memᴰ f es
+          later (inl q) = let (g, i, w) = any-some (must x) es some in absurd (never w (ap (must x) (a g (List·Memᴰ·tail i) w ∙ q) ∙ h))
+          later (inr k) = k
+
+      go : Looked es way → Looked (e ∷ es) way
+      go (blocked c shut) = blocked c (λ f m a. let (i, w) = inner f m a in shut f i w)
+      go (chosen d i a c g least) =
+          chosen d (List·Memᴰ·tail i) (each (λ (f : Belt). must x f ≡ true → f ≡ d) e es (λ q. absurd (never q h)) a) c g
+          (λ f m v. let (j, w) = inner f m v in least f j w)
+
+  looked-fixed : (k : ℕ) (g : BeltId) (es : List Belt) → Rises (namesOf es) → any (must x) es ≡ true → Looked es (after (made k g false) es)
+  looked-fixed k g [] r some = absurd (true≢false (sym some))
+  looked-fixed k g (e ∷ es) (more h r) some = go (must x e) refl (λ j i. looked-fixed j i es r)
+    where
+      here : must x e ≡ true → (way : Way) → Stays (on e) (beltId (e .name)) (any (must x) es) way → Looked (e ∷ es) way
+      here w way (inl (s, free)) =
+          chosen e (List·Memᴰ·head refl)
+          (each (λ (f : Belt). must x f ≡ true → f ≡ e) e es (λ q. refl) (λ f m q. absurd (never q (any-none (must x) es free m))))
+          (ap (λ (v : Way). v .cost) s) (ap (λ (v : Way). v .belt) s)
+          (λ f m a.
+          let q : e ≡ f = a e (List·Memᴰ·head refl) w in
+          let c : on e ≡ on f = ap (price x costs limit) q in
+          let n : e .name ≡ f .name = ap (λ (d : Belt). d .name) q in
+          (omega arith, λ v. omega arith))
+      here w way (inr (s, two)) =
+          blocked s (λ f m a.
+          let (d, i, q) = any-some (must x) es two in
+          let n : e .name ≡ d .name = ap (λ (v : Belt). v .name) (a e (List·Memᴰ·head refl) w ∙ sym (a d (List·Memᴰ·tail i) q)) in
+          absurd (omega (arith, lowest-first e es h d i)))
+
+      go : (w : Bool) → must x e ≡ w → ((j : ℕ) (i : BeltId) → any (must x) es ≡ true → Looked es (after (made j i false) es))
+          → Looked (e ∷ es) (after (then (made k g false) e w) es)
+      go true w below = here w (after (by e true) es) (stays (on e) (beltId (e .name)) es)
+      go false w below = later (ltb (on e) k)
+        where
+          rest : any (must x) es ≡ true
+          rest = ap (λ (v : Bool). v || any (must x) es) (sym w) ∙ some
+
+          later : (less : Bool) → Looked (e ∷ es) (after (cheaper less (on e) (beltId (e .name)) k g) es)
+          later true = widened e es w rest (after (by e false) es) (below (on e) (beltId (e .name)) rest)
+          later false = widened e es w rest (after (made k g false) es) (below k g rest)
+
+  pub looked : (es : List Belt) → Rises (namesOf es) → Looked es (wayBy x costs limit noWay es)
+  looked es r = go (test (any (must x) es))
+    where
+      go : (any (must x) es ≡ true) ⊎ (any (must x) es ≡ false) → Looked es (after noWay es)
+      go (inl h) = looked-fixed costLimit (beltId 0) es r h
+      go (inr h) = looked-free es r h

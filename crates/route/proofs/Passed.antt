@@ -1,0 +1,138 @@
+-- The pass backwards, one junction after the other: what the arrays of costs and of first belts hold once the junctions from u on are done.
+--
+--   Passed b x t u limit costs firsts
+--                              from u on each junction has the cost and the first belt of its way on, and limit is the nearest of them that a
+--                              required belt leaves, or t. Past t there is nothing to do: no way leads on from there
+--   passed-start               at first only t is done
+--   passed-moved, passed-kept  one junction further back, where a required belt leaves it and where none does
+--
+-- Assumes nothing.
+use mathlib.Core.Path.{_≡_, refl, sym, _∙_, ap, subst}
+use mathlib.Core.Logic.{_⊎_, inl, inr}
+use mathlib.Core.Bool.{true, false}
+use mathlib.Core.Option.{Option, none, some}
+use Prim.Native.Nat.{ℕ, zero, suc, _≤_, _<_}
+use mathlib.Core.List.{List, [], _∷_}
+use native.Mathlib.Omega.{arith}
+use native.Mathlib.Nat.{eq-or-lt-of-le}
+use lib.ListN.{length, getD, set, replicate, length-set, length-replicate, getD-replicate}
+use lib.Seq.{getD-set-same, getD-set-other}
+use Rattle.plan.specs.declared.read.BeltId.{BeltId}
+use Rattle.plan.specs.Plan.{Belt, planOf, leaving, beltId}
+use Rattle.plan.specs.Reading.{Accepted, Bytes}
+use Rattle.plan.proofs.Reading.{plan-sizes}
+use Rattle.route.specs.declared.relax.Way.{Way}
+use Rattle.route.specs.Routes.{costLimit}
+use Rattle.route.specs.Subproblems.{Subproblem}
+use Rattle.route.specs.Inner.{wayFrom, wayCost, noWay, wayBy}
+use Rattle.route.proofs.Onward.{way-end, way-past}
+use Rattle.route.proofs.Ways.{Nearest, Found, way-low, nearest-start, nearest-moved, nearest-kept, way-is}
+
+-- the way on from junction j costs v
+abbrev Costs : List ℕ → Subproblem → ℕ → ℕ → ℕ → Type 0
+Costs b x t j v = j ≤ planOf b .junctions → v ≡ wayCost (wayFrom (planOf b) x t j)
+
+-- the way on from junction j begins with belt v, if it begins with any
+abbrev Begins : List ℕ → Subproblem → ℕ → ℕ → BeltId → Type 0
+Begins b x t j v = (e : Belt) (r : List Belt) → wayFrom (planOf b) x t j ≡ some (e ∷ r) → v ≡ beltId (e .name)
+
+pub record Passed (b : List ℕ) (x : Subproblem) (t u limit : ℕ) (costs : List ℕ) (firsts : List BeltId) : Type 0 where
+  pub inside : u ≤ t
+  pub sizes : (length costs ≡ 257) × (length firsts ≡ 257)
+  pub low : (j : ℕ) → getD costs j 0 ≤ costLimit
+  pub priced : (j : ℕ) → u ≤ j → Costs b x t j (getD costs j 0)
+  pub guides : (j : ℕ) → u ≤ j → Begins b x t j (getD firsts j (beltId 0))
+  pub nearest : Nearest b x t u limit
+
+-- ---- arrays
+
+-- what holds of an element stored at u and of those above it holds from u on
+stored-on : {A : Type 0} (P : ℕ → A → Type 0) (d a : A) (l : List A) (u : ℕ) → u < length l → P u a → ((j : ℕ) → u < j → P j (getD l j d))
+    → (j : ℕ) → u ≤ j → P j (getD (set l u a) j d)
+stored-on P d a l u s p above j h = go (eq-or-lt-of-le h)
+  where
+    go : (u ≡ j) ⊎ (u < j) → P j (getD (set l u a) j d)
+    go (inl q) = subst (λ (k : ℕ). P k (getD (set l u a) k d)) q (subst (P u) (sym (getD-set-same l u a d s)) p)
+    go (inr k) = subst (P j) (sym (getD-set-other l u j a d (λ q. omega arith))) (above j k)
+
+replicate-low : (n a j : ℕ) → getD (replicate n a) j 0 ≤ a
+replicate-low zero a j = omega arith
+replicate-low (suc n) a zero = omega arith
+replicate-low (suc n) a (suc j) = replicate-low n a j
+
+set-low : (m : ℕ) (l : List ℕ) (i a : ℕ) → a ≤ m → ((j : ℕ) → getD l j 0 ≤ m) → (j : ℕ) → getD (set l i a) j 0 ≤ m
+set-low m [] i a h all j = all j
+set-low m (y ∷ l) zero a h all zero = h
+set-low m (y ∷ l) zero a h all (suc j) = all (suc j)
+set-low m (y ∷ l) (suc i) a h all zero = all zero
+set-low m (y ∷ l) (suc i) a h all (suc j) = set-low m l i a h (λ k. all (suc k)) j
+
+-- ---- no way on, and an empty one, have no first belt
+
+none-first : {e : Belt} {r : List Belt} → _≡_ {A = Option (List Belt)} none (some (e ∷ r)) → ⊥
+none-first h = let z : _≡_ {A = ℕ} 0 1 = cc in absurd (omega arith)
+
+empty-first : {e : Belt} {r : List Belt} → _≡_ {A = Option (List Belt)} (some []) (some (e ∷ r)) → ⊥
+empty-first h = let z : _≡_ {A = ℕ} 0 1 = cc in absurd (omega arith)
+
+-- ---- the pass
+
+module _ {b : List ℕ} (ok : Accepted b) (bytes : Bytes b) (x : Subproblem) (t : ℕ) (inside : t ≤ planOf b .junctions) where
+  -- a way on costs less than costLimit, which stands for none
+  cost-low : (u : ℕ) (o : Option (List Belt)) → wayFrom (planOf b) x t u ≡ o → wayCost o ≤ costLimit
+  cost-low u none h = omega arith
+  cost-low u (some r) h = omega (arith, way-low ok bytes x t inside u r h)
+
+  -- the arrays by their size n, so that they are not written out
+  start : (n : ℕ) → n ≡ 257 → Passed b x t t t (set (replicate n costLimit) t 0) (replicate n (beltId 0))
+  start n size =
+      let costs = replicate n costLimit in
+      let room = plan-sizes ok .1 in
+      let long = length-replicate n costLimit in
+      let beyond : (j : ℕ) → t < j → Costs b x t j (getD costs j 0) =
+      λ j l h. getD-replicate n j costLimit 0 (omega arith) ∙ sym (ap wayCost (way-past ok x t j l)) in
+      record {
+        inside = omega arith;
+        sizes = (length-set costs t 0 ∙ long ∙ size, length-replicate n (beltId 0) ∙ size);
+        low = set-low costLimit costs t 0 (omega arith) (replicate-low n costLimit);
+        priced = stored-on (Costs b x t) 0 0 costs t (omega arith) (λ h. sym (ap wayCost (way-end ok x t))) beyond;
+        guides = λ j l e r h. absurd (go j e r h (eq-or-lt-of-le l));
+        nearest = nearest-start ok bytes x t inside;
+      }
+    where
+      go : (j : ℕ) (e : Belt) (r : List Belt) → wayFrom (planOf b) x t j ≡ some (e ∷ r) → (t ≡ j) ⊎ (t < j) → ⊥
+      go j e r h (inl q) = empty-first (sym (subst (λ (k : ℕ). wayFrom (planOf b) x t k ≡ some []) q (way-end ok x t)) ∙ h)
+      go j e r h (inr l) = none-first (sym (way-past ok x t j l) ∙ h)
+
+  pub passed-start : Passed b x t t t (set (replicate 257 costLimit) t 0) (replicate 257 (beltId 0))
+  passed-start = start 257 refl
+
+  -- u is the junction before those that are done, and way is what its belts give
+  module _ {v u limit : ℕ} {costs : List ℕ} {firsts : List BeltId} {way : Way} (one : v ≡ suc u) (here : Passed b x t v limit costs firsts)
+      (same : way ≡ wayBy x costs limit noWay (leaving (planOf b) u)) where
+    done : Passed b x t (suc u) limit costs firsts
+    done = subst (λ (n : ℕ). Passed b x t n limit costs firsts) one here
+
+    found : Found b x t u way
+    found = subst (Found b x t u) (sym same) (way-is ok bytes x t inside u limit costs (done .inside) (done .nearest) (done .priced))
+
+    stored : (next : ℕ) → Nearest b x t u next → Passed b x t u next (set costs u (way .cost)) (set firsts u (way .belt))
+    stored next near =
+        let room = plan-sizes ok .1 in
+        let past = done .inside in
+        let at : u < 257 = omega arith in
+        let cheap : way .cost ≤ costLimit = omega (arith, found .price, cost-low u _ refl) in
+        record {
+          inside = omega arith;
+          sizes = (length-set costs u (way .cost) ∙ done .sizes .0, length-set firsts u (way .belt) ∙ done .sizes .1);
+          low = set-low costLimit costs u (way .cost) cheap (done .low);
+          priced = stored-on (Costs b x t) 0 (way .cost) costs u (omega (arith, done .sizes .0)) (λ h. found .price) (done .priced);
+          guides = stored-on (Begins b x t) (beltId 0) (way .belt) firsts u (omega (arith, done .sizes .1)) (found .belt) (done .guides);
+          nearest = near;
+        }
+
+    pub passed-moved : way .required ≡ true → Passed b x t u u (set costs u (way .cost)) (set firsts u (way .belt))
+    passed-moved h = stored u (nearest-moved ok bytes x t inside u (done .inside) (sym (found .cuts) ∙ h))
+
+    pub passed-kept : way .required ≡ false → Passed b x t u limit (set costs u (way .cost)) (set firsts u (way .belt))
+    passed-kept h = stored limit (nearest-kept ok bytes x t inside u limit (done .nearest) (sym (found .cuts) ∙ h))
