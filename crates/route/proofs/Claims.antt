@@ -7,6 +7,9 @@ use Rattle.route.proofs.Order.{order-claim, ends-claim}
 use Rattle.route.proofs.Enumeration.{routes-claim}
 use Rattle.route.proofs.Firsts.{relaxed-claim}
 use Rattle.route.proofs.Cut.{cut-claim}
+use Rattle.route.proofs.Enforced.{enforced-claim}
+use Rattle.route.proofs.Chosen.{bit-claim, masks-claim}
+use Rattle.route.proofs.Answered.{answer-claim}
 use Rattle.route.proofs.Lowest.{lowest-claim}
 use Rattle.route.proofs.Readings.{round-trip, read-back, one-reading, reading-claim}
 use Rattle.route.proofs.Checked.{first-refusal}
@@ -26,6 +29,10 @@ claims = record {
   routes = routes-claim;
   relaxed = relaxed-claim;
   cut = cut-claim;
+  enforced = enforced-claim;
+  bit = bit-claim;
+  masks = masks-claim;
+  answer = answer-claim;
   reading = reading-claim;
   one-reading = one-reading;
   round-trip = round-trip;

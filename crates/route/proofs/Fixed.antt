@@ -166,7 +166,7 @@ or-both false true q k = refl
 or-both false false q k = refl
 
 -- every number below their count is the place of a named belt
-place-at : {ns : List ℕ} → Rises ns → (k : ℕ) → k < length ns → (e : ℕ) × List·Memᴰ e ns × (count (λ (n : ℕ). ltb n e) ns ≡ k)
+pub place-at : {ns : List ℕ} → Rises ns → (k : ℕ) → k < length ns → (e : ℕ) × List·Memᴰ e ns × (count (λ (n : ℕ). ltb n e) ns ≡ k)
 place-at none k l = absurd (omega arith)
 place-at (more {x} {xs} h r) zero l = (
   x,
@@ -192,7 +192,7 @@ module _ {ns : List ℕ} (rises : Rises ns) where
       go (inr t) =
           ne-eqb (lower e) (lower x) (λ q. eqb-false e x t (sym (at-place e rises i .0) ∙ ap (λ (k : ℕ). getD ns k 0) q ∙ at-place x rises j .0)) ∙ sym t
 
-  with-belt : (m x e : ℕ) → List·Memᴰ x ns → List·Memᴰ e ns → inMask (withPlace m (placeOf ns x)) (placeOf ns e) ≡ (eqb e x || inMask m (placeOf ns e))
+  pub with-belt : (m x e : ℕ) → List·Memᴰ x ns → List·Memᴰ e ns → inMask (withPlace m (placeOf ns x)) (placeOf ns e) ≡ (eqb e x || inMask m (placeOf ns e))
   with-belt m x e j i =
       (λ k. inMask (withPlace m (place-in x ns j k)) (place-in e ns i k))
       ∙ with-bit m (lower x) (lower e)

@@ -8,12 +8,15 @@ pub mod Order
 pub mod Enumeration
 pub mod Firsts
 pub mod Cut
+pub mod Enforced
 pub mod Onward
 pub mod Looking
 pub mod Ways
 pub mod Passed
 pub mod Fixed
 pub mod Walked
+pub mod Chosen
+pub mod Answered
 pub mod Lowest
 pub mod Held
 pub mod Marks

@@ -19,6 +19,12 @@
 --   RelaxedClaim       `relaxed` is the one admitted route that comes before every other, and there is none exactly when no route is admitted
 --   CutClaim           a route from s to t has a belt g that leaves u exactly when s ≤ u < t and no other belt of the route leaves a
 --                      junction ≤ u and arrives at one > u
+--   EnforcedClaim      so a subproblem admits exactly the routes that each of its required belts restricts in this way and that have no
+--                      forbidden belt
+--   BitClaim           bit k of a mask is for the k-th of the named belts
+--   MasksClaim         every subproblem of named belts has masks, with the same relaxed routes
+--   AnswerClaim        the route that the code answers is the relaxed route, of at most 255 belts of the plan, with its cost, which is
+--                      below costLimit: it can be tested, written and checked
 -- Sheets:
 --   ReadingClaim       bytes are in the form of a sheet exactly when they have a reading, which is what stands in their fields
 --   OneReadingClaim    a sheet has at most one reading
@@ -34,9 +40,12 @@ use mathlib.Core.Path.{_≡_}
 use mathlib.Core.Logic.{_⊎_, _↔_}
 use mathlib.Core.Bool.{true, false}
 use mathlib.Core.Option.{none, some}
-use Prim.Native.Nat.{ℕ, _^_, _≤_, _<_}
+use Prim.Native.Nat.{ℕ, _/_, _%_, _^_, _≤_, _<_}
 use mathlib.Core.List.{List, [], _++_, map, List·Memᴰ}
-use Rattle.plan.specs.Plan.{Belt, planOf, namesOf}
+use lib.ListN.{length, getD}
+use lib.Dec.{eqb}
+use Rattle.plan.specs.Lists.{mem}
+use Rattle.plan.specs.Plan.{Belt, planOf, namesOf, named}
 use Rattle.plan.specs.Claims.{Unbroken, FirstIn}
 use Rattle.plan.specs.Reading.{Accepted, Bytes}
 use Rattle.route.specs.Lcsp.{Var, Lit, Formula, IsAssignment, _∥_, Satisfies, Arc, IsInstance, weightOf, FeasibleBy, Feasible}
@@ -49,7 +58,9 @@ use Rattle.route.specs.Subproblems.{Subproblem, admits, relaxed, Restric
 use Rattle.route.specs.Instances.{arcOf, instanceOf, joint}
 use Rattle.route.specs.Sheets.{sheetOf, Reads, inForm, beltsOn, costOn, settingOn}
 use Rattle.route.specs.Refusals.{Case, queryLines, checkLines, sheetRefusal}
-use Rattle.route.specs.Values.{idsOf, packed, Known, routeIn, sheetIn, bytesOf, caseOf}
+use Rattle.route.specs.declared.relax.Fixings.{Fixings}
+use Rattle.route.specs.declared.relax.Relaxed.{Relaxed}
+use Rattle.route.specs.Values.{idsOf, packed, Known, routeIn, sheetIn, bytesOf, fixedIn, OfNamed, subproblemIn, relaxedAs, caseOf}
 
 -- ---- the published definition
 
@@ -112,6 +123,28 @@ RelaxedClaim = (b : List ℕ) → Accepted b → (s t : ℕ) (x : Subproblem) �
 abbrev pub CutClaim : Type 0
 CutClaim = (b : List ℕ) → Accepted b → (s t : ℕ) (r : List Belt) → IsRoute (planOf b) s t r
     → (g : Belt) → List·Memᴰ g (planOf b .belts) → (passes r (g .name) ≡ true) ↔ Restricts s t g r
+
+abbrev pub EnforcedClaim : Type 0
+EnforcedClaim = (b : List ℕ) → Accepted b → (s t : ℕ) (r : List Belt) → IsRoute (planOf b) s t r
+    → (x : Subproblem) → ((e : ℕ) → List·Memᴰ e (x .required) → List·Memᴰ e (namesOf (planOf b .belts)))
+    → (admits x r ≡ true)
+    ↔ (((g : Belt) → List·Memᴰ g (planOf b .belts) → List·Memᴰ (g .name) (x .required) → Restricts s t g r)
+    × ((e : ℕ) → List·Memᴰ e (x .forbidden) → passes r e ≡ false))
+
+abbrev pub BitClaim : Type 0
+BitClaim = (b : List ℕ) (m k : ℕ) → k < length (named (planOf b))
+    → mem (getD (named (planOf b)) k 0) (fixedIn (named (planOf b)) m) ≡ eqb (m / 2 ^ k % 2) 1
+
+abbrev pub MasksClaim : Type 0
+MasksClaim = (b : List ℕ) → Accepted b → (x : Subproblem)
+    → ((e : ℕ) → List·Memᴰ e (x .required) → List·Memᴰ e (named (planOf b))) → ((e : ℕ) → List·Memᴰ e (x .forbidden) → List·Memᴰ e (named (planOf b)))
+    → (f : Fixings) × OfNamed b (f .required) × OfNamed b (f .forbidden)
+    × ((s t : ℕ) → relaxed (planOf b) s t (subproblemIn b f) ≡ relaxed (planOf b) s t x)
+
+abbrev pub AnswerClaim : Type 0
+AnswerClaim = (b : List ℕ) → Accepted b → Bytes b → (s t : ℕ) → 1 ≤ s → t ≤ planOf b .junctions → (x : Subproblem) (v : Relaxed)
+    → v ≡ relaxedAs (relaxed (planOf b) s t x) → v .found ≡ true
+    → Known b (v .route) × (relaxed (planOf b) s t x ≡ some (routeIn b (v .route))) × (v .cost ≡ cost (routeIn b (v .route))) × (v .cost < costLimit)
 
 -- ---- sheets
 
@@ -176,6 +209,10 @@ pub record Claims : Type 0 where
   pub routes : RoutesClaim
   pub relaxed : RelaxedClaim
   pub cut : CutClaim
+  pub enforced : EnforcedClaim
+  pub bit : BitClaim
+  pub masks : MasksClaim
+  pub answer : AnswerClaim
   pub reading : ReadingClaim
   pub one-reading : OneReadingClaim
   pub round-trip : RoundTripClaim

@@ -10,13 +10,14 @@
 --   settingIn v      the lowest setting, if there is one, that an answer stands for
 --   inMask m q       a mask has the place q: bit k is for place k
 --   fixedIn ns m     those of the named belts ns whose places a mask has, in rising index
+--   OfNamed b m      the mask m has no other places than those of the named belts of the plan b
 --   subproblemIn b f the subproblem of the plan b that the masks f stand for
 --   namedPlaces b    the places of the named belts of the plan b, as the code looks them up
 --   relaxedAs o      the answer that stands for a relaxed route, or for none
 --   caseOf b trip h  the case of the sheet check
 --
 -- Assumes nothing.
-use Prim.Native.Nat.{ℕ, _-_, _/_, _%_, _^_, _≤_}
+use Prim.Native.Nat.{ℕ, _-_, _/_, _%_, _^_, _≤_, _<_}
 use mathlib.Core.Bool.{Bool, true, false}
 use mathlib.Core.Option.{Option, none, some}
 use mathlib.Core.List.{List, [], _++_, map, List·Memᴰ}
@@ -77,6 +78,9 @@ inMask m Unnamed = false
 
 abbrev pub fixedIn : List ℕ → ℕ → List ℕ
 fixedIn ns m = keep (λ (e : ℕ). inMask m (placeOf ns e)) ns
+
+abbrev pub OfNamed : List ℕ → ℕ → Type 0
+OfNamed b m = m < 2 ^ length (named (planOf b))
 
 abbrev pub subproblemIn : List ℕ → Fixings → Subproblem
 subproblemIn b f = record { required = fixedIn (named (planOf b)) (f .required); forbidden = fixedIn (named (planOf b)) (f .forbidden) }

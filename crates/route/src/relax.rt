@@ -13,15 +13,15 @@ use plan::named;
 use plan::read;
 use plan::read::BeltId;
 ghost use mathlib.Core.Path.{_≡_};
-ghost use Prim.Native.Nat.{ℕ, _^_, _≤_, _<_};
+ghost use Prim.Native.Nat.{ℕ, _≤_, _<_};
 ghost use mathlib.Core.Bool.{false};
 ghost use mathlib.Core.Option.{none};
-ghost use lib.ListN.{length, getD};
-ghost use Rattle.plan.specs.Plan.{planOf, beltAt, leaving, named};
+ghost use lib.ListN.{getD};
+ghost use Rattle.plan.specs.Plan.{planOf, beltAt, leaving};
 ghost use Rattle.plan.specs.Reading.{Accepted, IsBelt};
 ghost use Rattle.route.specs.Routes.{wrongEnds, costLimit};
 ghost use Rattle.route.specs.Subproblems.{relaxed};
-ghost use Rattle.route.specs.Values.{subproblemIn, namedPlaces, relaxedAs};
+ghost use Rattle.route.specs.Values.{OfNamed, subproblemIn, namedPlaces, relaxedAs};
 ghost use Rattle.route.specs.Inner.{wayOver, preferred, noWay, wayBy, wayIn, wayCost, Guides, complete};
 
 // A subproblem: masks over the named belts of the plan, bit k for the belt at place k among them.
@@ -156,7 +156,7 @@ fn ways_to(p: &[u8], places: &[u8; 2048], fixings: Fixings, s: usize, t: usize) 
 
 // The walk forward, from s where there is a way on. The route is the relaxed one if it has every required belt.
 fn walk(p: &[u8], places: &[u8; 2048], fixings: Fixings, ways: Ways, s: usize, t: usize) -> Relaxed
-    requires { ⌜ Accepted (now p) × (now places ≡ namedPlaces (now p)) × (fixings .required < 2 ^ length (named (planOf (now p)))) × (1 ≤ s) × (s ≤ planOf (now p) .junctions) × (t ≤ planOf (now p) .junctions) × (ways .cost < costLimit) × (ways .cost ≡ wayCost (wayIn (now p) fixings t s)) × Guides (now p) fixings t s (ways .firsts) ⌝ }
+    requires { ⌜ Accepted (now p) × (now places ≡ namedPlaces (now p)) × OfNamed (now p) (fixings .required) × (1 ≤ s) × (s ≤ planOf (now p) .junctions) × (t ≤ planOf (now p) .junctions) × (ways .cost < costLimit) × (ways .cost ≡ wayCost (wayIn (now p) fixings t s)) × Guides (now p) fixings t s (ways .firsts) ⌝ }
     ensures { λ v. ⌜ v ≡ relaxedAs (complete (subproblemIn (now (p .entry)) fixings) (wayIn (now (p .entry)) fixings t s)) ⌝ }
 {
     let firsts = ways.firsts;
@@ -203,7 +203,7 @@ fn nothing() -> Relaxed
 
 // The relaxed route from s to t of a subproblem. `places` are those of the plan's named belts (plan::named::named_places).
 pub fn relaxed_route(p: &[u8], places: &[u8; 2048], trip: Trip, fixings: Fixings) -> Relaxed
-    requires { ⌜ Accepted (now p) × (now places ≡ namedPlaces (now p)) × (wrongEnds (planOf (now p)) (trip .s) (trip .t) ≡ false) × (fixings .required < 2 ^ length (named (planOf (now p)))) ⌝ }
+    requires { ⌜ Accepted (now p) × (now places ≡ namedPlaces (now p)) × (wrongEnds (planOf (now p)) (trip .s) (trip .t) ≡ false) × OfNamed (now p) (fixings .required) ⌝ }
     ensures { λ v. ⌜ v ≡ relaxedAs (relaxed (planOf (now (p .entry))) (trip .s) (trip .t) (subproblemIn (now (p .entry)) fixings)) ⌝ }
 {
     let s = trip.s as usize;
