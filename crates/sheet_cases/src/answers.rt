@@ -1,4 +1,7 @@
 // What is printed of a case: the number that the check answers to a sheet, or the lowest setting of its route and the sheet written anew.
+use cases::plans::Plan;
+use cases::print::print_number;
+use cases::records::Bytes;
 use route::modes::Lowest;
 use route::path::Route;
 use route::path::Trip;
@@ -12,12 +15,6 @@ ghost use Rattle.route.specs.Values.{Known};
 pub enum Asked {
     Number,
     Lowest,
-}
-
-// A word and a number behind it.
-fn print(word: &[u8], n: u64) {
-    io::write_all(1, word);
-    io::print_decimal(1, n);
 }
 
 fn wide(x: u8) -> u64 {
@@ -49,7 +46,7 @@ fn print_bytes(bytes: &[u8]) {
         if 48 <= i {
             return;
         }
-        print(b" ", wide(bytes[i]));
+        print_number(b" ", wide(bytes[i]));
         i += 1;
     }
 }
@@ -57,8 +54,8 @@ fn print_bytes(bytes: &[u8]) {
 // Prints the sheet in the first n bytes, what the check answers to it, and whether the bytes behind it are as they were.
 fn print_sheet(p: &[u8], trip: Trip, out: &[u8], n: usize) {
     if n <= out.len() {
-        print(b" length ", n as u64);
-        print(b" check ", wide(number(p, trip, &out[..n])));
+        print_number(b" length ", n as u64);
+        print_number(b" check ", wide(number(p, trip, &out[..n])));
         if kept(out, n) {
             io::write_all(1, b" guard kept");
         } else {
@@ -84,7 +81,7 @@ fn print_setting(p: &[u8], trip: Trip, r: Route)
     let lowest = route::modes::lowest_setting(p, r);
     match lowest {
         Lowest::Works(setting) => {
-            print(b" setting ", setting as u64);
+            print_number(b" setting ", setting as u64);
             let cost = route::path::cost(p, r);
             print_written(
                 p,
@@ -132,7 +129,7 @@ fn print_route(p: &[u8], trip: Trip, h: &[u8]) {
 
 fn print_answer(asked: Asked, p: &[u8], trip: Trip, h: &[u8]) {
     match asked {
-        Asked::Number => print(b" ", wide(number(p, trip, h))),
+        Asked::Number => print_number(b" ", wide(number(p, trip, h))),
         Asked::Lowest => print_route(p, trip, h),
     }
 }
@@ -146,8 +143,9 @@ fn print_parts(asked: Asked, plan: &[u8], n: usize, trip: Trip, sheet: &[u8], m:
     }
 }
 
-// Prints what is asked of a case, and ends the line.
-pub fn answer(asked: Asked, plan: &[u8; 6192], n: usize, trip: Trip, sheet: &[u8; 6192], m: usize) {
-    print_parts(asked, plan, n, trip, sheet, m);
+// Prints what is asked of a case, whose sheet has m bytes, and ends the line.
+pub fn answer(asked: Asked, plan: Plan, trip: Trip, sheet: &Bytes, m: usize) {
+    let bytes = plan.bytes;
+    print_parts(asked, &bytes, plan.size, trip, sheet, m);
     io::write_all(1, b"\n");
 }

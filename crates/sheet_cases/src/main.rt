@@ -3,11 +3,11 @@
 // and the sheet that is written. The cases are in the file `stdin`, and what `stdout` says of them is taken from the paper.
 //
 //   script    the lines of the input: remarks, plans and cases
-//   plans     the plans and sheets that the lines start from, among them plan P of the paper
+//   sheets    the sheets that the cases start from
 //   answers   what is printed of a case
 mod answers;
-mod plans;
 mod script;
+mod sheets;
 
 fn main() {
     let mut buf = io::large_buffer();

@@ -6,14 +6,14 @@ use native.Mathlib.Omega.{arith}
 use Rattle.sheet_cases.proofs.answers.print_sheet.Statement.{statement}
 use Rattle.sheet_cases.proofs.answers.print_sheet.Tie as tie
 
-slice-aggregate-print : tie.Need-slice-aggregate-print
-slice-aggregate-print c = search needs
+slice-aggregate-print-number : tie.Need-slice-aggregate-print-number
+slice-aggregate-print-number c = search needs
 
-print-requires : tie.Need-print-requires
-print-requires c κs = search needs
+print-number-requires : tie.Need-print-number-requires
+print-number-requires c κs = search needs
 
-slice-aggregate-print-2 : tie.Need-slice-aggregate-print-2
-slice-aggregate-print-2 c = search needs
+slice-aggregate-print-number-2 : tie.Need-slice-aggregate-print-number-2
+slice-aggregate-print-number-2 c = search needs
 
 slice-aggregate-number : tie.Need-slice-aggregate-number
 slice-aggregate-number c = sym (length-take-le _ _ (omega arith))
@@ -24,8 +24,8 @@ number-requires c κs = search needs
 wide-requires : tie.Need-wide-requires
 wide-requires c κs = search needs
 
-print-requires-2 : tie.Need-print-requires-2
-print-requires-2 c κs = search needs
+print-number-requires-2 : tie.Need-print-number-requires-2
+print-number-requires-2 c κs = search needs
 
 kept-requires : tie.Need-kept-requires
 kept-requires c κs = search needs
@@ -58,13 +58,13 @@ pub print-sheet-spec : {M : Type 1} → statement M
 print-sheet-spec =
     tie.close
     (tie.spec
-    slice-aggregate-print
-    print-requires
-    slice-aggregate-print-2
+    slice-aggregate-print-number
+    print-number-requires
+    slice-aggregate-print-number-2
     slice-aggregate-number
     number-requires
     wide-requires
-    print-requires-2
+    print-number-requires-2
     kept-requires
     slice-aggregate-write-all
     write-all-requires

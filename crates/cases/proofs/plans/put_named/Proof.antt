@@ -1,8 +1,8 @@
 -- `put_named`: the belts left to write are fewer at each turn.
 use Prim.Native.Nat.{_-_}
 use borrow.Author.Needs.{needs}
-use Rattle.sheet_cases.proofs.plans.put_named.Statement.{statement}
-use Rattle.sheet_cases.proofs.plans.put_named.Tie as tie
+use Rattle.cases.proofs.plans.put_named.Statement.{statement}
+use Rattle.cases.proofs.plans.put_named.Tie as tie
 
 abbrev Inv-loop : tie.InvT-loop
 Inv-loop buf₀ e₀ buf e = Unit {0}

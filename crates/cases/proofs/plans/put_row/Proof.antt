@@ -1,8 +1,8 @@
 -- `put_row`: the junctions left to write are fewer at each turn.
 use Prim.Native.Nat.{_-_}
 use borrow.Author.Needs.{needs}
-use Rattle.sheet_cases.proofs.plans.put_row.Statement.{statement}
-use Rattle.sheet_cases.proofs.plans.put_row.Tie as tie
+use Rattle.cases.proofs.plans.put_row.Statement.{statement}
+use Rattle.cases.proofs.plans.put_row.Tie as tie
 
 abbrev Inv-loop : tie.InvT-loop
 Inv-loop buf₀ j₀ buf j = Unit {0}

@@ -1,8 +1,8 @@
 -- `put_row_sheet`: the steps left to write are fewer at each turn.
 use Prim.Native.Nat.{_-_}
 use borrow.Author.Needs.{needs}
-use Rattle.sheet_cases.proofs.plans.put_row_sheet.Statement.{statement}
-use Rattle.sheet_cases.proofs.plans.put_row_sheet.Tie as tie
+use Rattle.sheet_cases.proofs.sheets.put_row_sheet.Statement.{statement}
+use Rattle.sheet_cases.proofs.sheets.put_row_sheet.Tie as tie
 
 abbrev Inv-loop : tie.InvT-loop
 Inv-loop buf₀ k₀ buf k = Unit {0}

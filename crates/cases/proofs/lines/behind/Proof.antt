@@ -1,15 +1,15 @@
--- `print_name`: the bytes left are fewer at each turn.
+-- `behind`: the bytes left are fewer at each turn.
 use Prim.Native.Nat.{_-_}
 use borrow.Author.Needs.{needs}
 use lib.ListN.{length}
-use Rattle.sheet_cases.proofs.script.print_name.Statement.{statement}
-use Rattle.sheet_cases.proofs.script.print_name.Tie as tie
+use Rattle.cases.proofs.lines.behind.Statement.{statement}
+use Rattle.cases.proofs.lines.behind.Tie as tie
 
 abbrev Inv-loop : tie.InvT-loop
-Inv-loop text at i₀ i = Unit {0}
+Inv-loop text at sign i₀ i = Unit {0}
 
 abbrev μ-loop : tie.MeasureT-loop
-μ-loop text at i₀ i = length text - i
+μ-loop text at sign i₀ i = length text - i
 
 loop-holds : tie.Need-loop-holds Inv-loop μ-loop
 loop-holds c = search needs
@@ -20,14 +20,11 @@ shared-slice-read-c c = search needs
 returns : tie.Need-returns Inv-loop μ-loop
 returns c = search needs
 
-slice-aggregate-write-all : tie.Need-slice-aggregate-write-all Inv-loop μ-loop
-slice-aggregate-write-all c = search needs
-
-write-all-requires : tie.Need-write-all-requires Inv-loop μ-loop
-write-all-requires c κs = search needs
-
 add-i : tie.Need-add-i Inv-loop μ-loop
 add-i c = search needs
+
+returns-2 : tie.Need-returns-2 Inv-loop μ-loop
+returns-2 c = search needs
 
 loop-less : tie.Need-loop-less Inv-loop μ-loop
 loop-less c = search needs
@@ -35,11 +32,11 @@ loop-less c = search needs
 loop-again : tie.Need-loop-again Inv-loop μ-loop
 loop-again c = search needs
 
-returns-2 : tie.Need-returns-2 Inv-loop μ-loop
-returns-2 c = search needs
+returns-3 : tie.Need-returns-3 Inv-loop μ-loop
+returns-3 c = search needs
 
-pub print-name-spec : {M : Type 1} → statement M
-print-name-spec =
+pub behind-spec : {M : Type 1} → statement M
+behind-spec =
     tie.close
     (tie.spec
     Inv-loop
@@ -47,9 +44,8 @@ print-name-spec =
     loop-holds
     shared-slice-read-c
     returns
-    slice-aggregate-write-all
-    write-all-requires
     add-i
+    returns-2
     loop-less
     loop-again
-    returns-2)
+    returns-3)
