@@ -14,14 +14,14 @@ use mathlib.Core.Path.{_≡_, refl, sym, _∙_, ap, subst}
 use mathlib.Core.Logic.{_⊎_, inl, inr, _↔_}
 use mathlib.Core.Bool.{Bool, true, false}
 use Prim.Native.Nat.{ℕ}
-use mathlib.Core.List.{List, [], _∷_, _++_, List·Memᴰ, List·Memᴰ·head, List·Memᴰ·tail, List·Memᴰ·not-nil, List·Memᴰ·cases-cons}
+use mathlib.Core.List.{List, [], _∷_, _++_, List·Memᴰ·head, List·Memᴰ·tail, List·Memᴰ·not-nil}
 use native.Mathlib.Omega.{arith}
 use lib.Dec.{leb}
 use borrow.Author.Tests.{leb-true}
 use Rattle.plan.specs.Lists.{all}
 use Rattle.plan.specs.Refusals.{Line, firstBroken}
 use Rattle.plan.specs.Claims.{Unbroken, FirstIn}
-use Rattle.plan.proofs.Lists.{both}
+use Rattle.plan.proofs.Lists.{both, each}
 
 module _ {A : Type 0} where
   -- one more line in front, broken or not
@@ -32,11 +32,7 @@ module _ {A : Type 0} where
   on-unbroken l ls b e = ap (λ (t : Bool). elim t [ true ↦ l .number | false ↦ firstBroken ls b ]) e
 
   more : (l : Line A) (ls : List (Line A)) (b : A) → l .broken b ≡ false → Unbroken ls b → Unbroken (l ∷ ls) b
-  more l ls b e h k m = go (List·Memᴰ·cases-cons m)
-    where
-      go : (k ≡ l) ⊎ List·Memᴰ k ls → k .broken b ≡ false
-      go (inl q) = ap (λ (x : Line A). x .broken b) q ∙ e
-      go (inr m) = h k m
+  more l ls b e h = each (λ (k : Line A). k .broken b ≡ false) e h
 
   pub first-is : (ls : List (Line A)) (b : A) → ((firstBroken ls b ≡ 0) × Unbroken ls b) ⊎ FirstIn ls b (firstBroken ls b)
   first-is [] b = inl (refl, λ l m. absurd (List·Memᴰ·not-nil m))

@@ -1,5 +1,5 @@
--- Laws of the lists and tests of specs/Lists.antt, grouped by what they are about: Booleans, tests of numbers, `any` and `all`, `keep`,
--- `map` and `joined`, `run` and `upto`, `mem`, `count`, loops that count up. Rising lists are in Rising.antt.
+-- Laws of the lists and tests of specs/Lists.antt, grouped by what they are about: Booleans, tests of numbers, elements, `any` and `all`,
+-- `keep`, `map` and `joined`, `run` and `upto`, `mem`, `count`, loops that count up. Rising lists are in Rising.antt.
 -- Assumes nothing.
 use mathlib.Core.Path.{_≡_, refl, sym, _∙_, ap, subst}
 use mathlib.Core.Logic.{_⊎_, inl, inr}
@@ -12,7 +12,7 @@ use native.Mathlib.Numerals.{add-one}
 use lib.ListN.{length, getD, length-map}
 use lib.Seq.{ext-getD}
 use lib.Dec.{eqb, leb, ltb}
-use borrow.Author.Tests.{eqb-true, eqb-false, eq-eqb, ne-eqb, ltb-true, ltb-false, leb-true, le-leb, lt-leb}
+use borrow.Author.Tests.{eqb-true, eq-eqb, ltb-true, ltb-false, leb-true, le-leb, lt-leb}
 use Rattle.plan.specs.Lists.{any, all, kept, keep, counted, count, mem, joined, run, upto, within}
 
 -- ---- Booleans
@@ -42,6 +42,17 @@ either false b h = inr h
 pub never : {b : Bool} → b ≡ true → b ≡ false → ⊥
 never p q = true≢false (sym p ∙ q)
 
+-- what is not true is false
+pub untrue : (b : Bool) → (b ≡ true → ⊥) → b ≡ false
+untrue true h = absurd (h refl)
+untrue false h = refl
+
+-- two of which each is true where the other is are equal
+pub alike : (a b : Bool) → (a ≡ true → b ≡ true) → (b ≡ true → a ≡ true) → a ≡ b
+alike true b to from = sym (to refl)
+alike false true to from = from refl
+alike false false to from = refl
+
 -- the equality test of Booleans
 pub beq-true : (a b : Bool) → Bool·beq a b ≡ true → a ≡ b
 beq-true true true h = refl
@@ -57,11 +68,7 @@ beq-refl false = refl
 
 -- the test for equality, either way round
 pub eqb-sym : (a b : ℕ) → eqb a b ≡ eqb b a
-eqb-sym a b = go (test (eqb a b))
-  where
-    go : (eqb a b ≡ true) ⊎ (eqb a b ≡ false) → eqb a b ≡ eqb b a
-    go (inl t) = t ∙ sym (eq-eqb b a (sym (eqb-true a b t)))
-    go (inr t) = t ∙ sym (ne-eqb b a (λ e. eqb-false a b t (sym e)))
+eqb-sym a b = alike (eqb a b) (eqb b a) (λ t. eq-eqb b a (sym (eqb-true a b t))) (λ t. eq-eqb a b (sym (eqb-true b a t)))
 
 pub leb-not : (a b : ℕ) → leb a b ≡ not (ltb b a)
 leb-not a b = go (test (ltb b a))
@@ -76,16 +83,21 @@ within-is a n z h = let k = both (leb a n) (leb n z) h in (leb-true a n (k .0), 
 pub is-within : (a n z : ℕ) → a ≤ n → n ≤ z → within a n z ≡ true
 is-within a n z l u = and-is (leb a n) (leb n z) (le-leb a n l) (le-leb n z u)
 
+-- ---- elements
+
+-- what holds of the first and of all others holds of all
+pub each : {A : Type 0} (P : A → Type 0) {x : A} {xs : List A} → P x → ((a : A) → List·Memᴰ a xs → P a) → (a : A) → List·Memᴰ a (x ∷ xs) → P a
+each P first rest a (List·Memᴰ·head e) = subst P (sym e) first
+each P first rest a (List·Memᴰ·tail m) = rest a m
+
 -- ---- any and all
 
 module _ {A : Type 0} (f : A → Bool) where
   pub all-in : {a : A} (xs : List A) → all f xs ≡ true → List·Memᴰ a xs → f a ≡ true
   all-in [] h m = absurd (List·Memᴰ·not-nil m)
-  all-in {a} (x ∷ xs) h m = go (List·Memᴰ·cases-cons m) (all-in xs (both (f x) (all f xs) h .1))
-    where
-      go : (a ≡ x) ⊎ List·Memᴰ a xs → (List·Memᴰ a xs → f a ≡ true) → f a ≡ true
-      go (inl e) below = ap f e ∙ both (f x) (all f xs) h .0
-      go (inr k) below = below k
+  all-in {a} (x ∷ xs) h m =
+      let (first, rest) = both (f x) (all f xs) h in
+      each (λ (b : A). f b ≡ true) first (λ b k. all-in xs rest k) a m
 
   pub all-is : (xs : List A) → ((a : A) → List·Memᴰ a xs → f a ≡ true) → all f xs ≡ true
   all-is [] h = refl
@@ -93,11 +105,9 @@ module _ {A : Type 0} (f : A → Bool) where
 
   pub any-none : {a : A} (xs : List A) → any f xs ≡ false → List·Memᴰ a xs → f a ≡ false
   any-none [] h m = absurd (List·Memᴰ·not-nil m)
-  any-none {a} (x ∷ xs) h m = go (List·Memᴰ·cases-cons m) (any-none xs (neither (f x) (any f xs) h .1))
-    where
-      go : (a ≡ x) ⊎ List·Memᴰ a xs → (List·Memᴰ a xs → f a ≡ false) → f a ≡ false
-      go (inl e) below = ap f e ∙ neither (f x) (any f xs) h .0
-      go (inr k) below = below k
+  any-none {a} (x ∷ xs) h m =
+      let (first, rest) = neither (f x) (any f xs) h in
+      each (λ (b : A). f b ≡ false) first (λ b k. any-none xs rest k) a m
 
   pub none-any : (xs : List A) → ((a : A) → List·Memᴰ a xs → f a ≡ false) → any f xs ≡ false
   none-any [] h = refl

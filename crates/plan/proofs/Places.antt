@@ -8,7 +8,7 @@
 --   numbered-places   numbered in an array of 2,048 they are `placesOf`
 --   place-is          the place that this array has for a belt is its place
 --   place-in          a named belt has the place that the belts before it leave it
---   at-place          at its place in the list stands the belt
+--   at-place          at its place in the list stands the belt; place-at: every number below their count is the place of one
 --
 -- Assumes nothing.
 use mathlib.Core.Path.{_≡_, refl, sym, _∙_, ap}
@@ -79,6 +79,15 @@ at-place e (more {x} {xs} h r) (List·Memᴰ·tail m) =
     let k : counted (ltb x e) (count (λ (n : ℕ). ltb n e) xs) ≡ suc (count (λ (n : ℕ). ltb n e) xs) = ap (λ (t : Bool). counted t (count (λ (n : ℕ). ltb n e) xs)) (lt-ltb x e (h e m)) in
     let below = at-place e r m in
     (ap (λ (i : ℕ). getD (x ∷ xs) i 0) k ∙ below .0, omega (arith, below .1))
+
+-- every number below their count is the place of one of them
+pub place-at : {ns : List ℕ} → Rises ns → (k : ℕ) → k < length ns → (e : ℕ) × List·Memᴰ e ns × (count (λ (n : ℕ). ltb n e) ns ≡ k)
+place-at none k l = absurd (omega arith)
+place-at (more {x} {xs} h r) zero l =
+    (x, List·Memᴰ·head refl, ap (λ (t : Bool). counted t (count (λ (n : ℕ). ltb n x) xs)) (le-ltb x x (omega arith)) ∙ none-below x xs h)
+place-at (more {x} {xs} h r) (suc k) l =
+    let (e, m, q) = place-at r k (omega arith) in
+    (e, List·Memᴰ·tail m, ap (λ (t : Bool). counted t (count (λ (n : ℕ). ltb n e) xs)) (lt-ltb x e (h e m)) ∙ ap suc q)
 
 pub place-in : (e : ℕ) (ns : List ℕ) → List·Memᴰ e ns → placeOf ns e ≡ At (count (λ (n : ℕ). ltb n e) ns)
 place-in e ns m = ap (λ (t : Bool). placeBy t (count (λ (n : ℕ). ltb n e) ns)) (in-mem ns m)

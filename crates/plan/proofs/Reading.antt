@@ -1,5 +1,6 @@
 -- What the layers above go by: laws of an accepted plan, each stated once. Every law takes `Accepted b` first, except
 --   field-low               a field of bytes, of a plan or not, is below 65,536
+--   in-leaving, leaving-in  a belt of any plan is among those leaving a junction exactly when it leaves it
 --
 -- Chains, step by step; a law `..-end` for the number 0, `..-next` for a record, `..-is` for what a number on a chain is:
 --   leaving-from, belts-end, belts-next, first-belt-is, next-belt-is             the belts leaving a junction
@@ -40,10 +41,10 @@ use Rattle.plan.specs.declared.read.Literal.{Literal}
 use Rattle.plan.specs.declared.read.Literal.the-variants.{OfBelt, OfMode}
 use Rattle.plan.specs.Lists.{mem}
 use Rattle.plan.specs.Records.{field, kind, junctions, modes, records, chain}
-use Rattle.plan.specs.Plan.{Belt, planOf, leaves, beltAt, beltRecords, literalBy, literalAt, ruleAt, namesOf, leaving, named}
+use Rattle.plan.specs.Plan.{Belt, Plan, planOf, leaves, beltAt, beltRecords, literalBy, literalAt, ruleAt, namesOf, leaving, named}
 use Rattle.plan.specs.Limits.{Limits, LiteralForm, BeltForm, RuleForm}
 use Rattle.plan.specs.Reading.{Accepted, Bytes, IsBelt, IsRule, IsLiteral, firstBelt, nextBelt, firstRule, nextRule, firstLiteral, nextLiteral, beltsFrom, rulesFrom, literalsFrom}
-use Rattle.plan.proofs.Lists.{test, never, in-keep, in-map, map-in, in-mem, mem-in}
+use Rattle.plan.proofs.Lists.{untrue, alike, in-keep, keep-in, in-map, map-in, in-mem, mem-in}
 use Rattle.plan.proofs.Links.{Linked}
 use Rattle.plan.proofs.Rising.{Rises}
 use Rattle.plan.proofs.Passed.{linked}
@@ -64,6 +65,12 @@ by-mode false v n m w q = let k : m ≡ record { 0 = n } = cc in (refl, ap (λ (
 
 pub field-low : (b : List ℕ) → Bytes b → (i f : ℕ) → field b i f < 65536
 field-low b bytes i f = omega (arith, bytes (12 * i + 2 * f), bytes (12 * i + 2 * f + 1))
+
+pub in-leaving : (p : Plan) (j : ℕ) (x : Belt) → List·Memᴰ x (p .belts) → x .leaves ≡ j → List·Memᴰ x (leaving p j)
+in-leaving p j x m e = in-keep (λ (y : Belt). eqb (y .leaves) j) (p .belts) m (eq-eqb (x .leaves) j e)
+
+pub leaving-in : (p : Plan) (j : ℕ) (x : Belt) → List·Memᴰ x (leaving p j) → List·Memᴰ x (p .belts) × (x .leaves ≡ j)
+leaving-in p j x m = let (i, e) = keep-in (λ (y : Belt). eqb (y .leaves) j) (p .belts) m in (i, eqb-true (x .leaves) j e)
 
 module _ {b : List ℕ} (ok : Accepted b) where
   links : Linked b
@@ -146,18 +153,12 @@ module _ {b : List ℕ} (ok : Accepted b) where
       subst (IsBelt b) (sym (k .2)) (belt-of (k .0) (k .1) .0)
 
   pub not-named : (e : ℕ) → (IsBelt b e → ⊥) → mem e (namesOf (planOf b .belts)) ≡ false
-  not-named e none = go (test (mem e (namesOf (planOf b .belts))))
-    where
-      go : (mem e (namesOf (planOf b .belts)) ≡ true) ⊎ (mem e (namesOf (planOf b .belts)) ≡ false) → mem e (namesOf (planOf b .belts)) ≡ false
-      go (inl t) = absurd (none (name-belt e t))
-      go (inr t) = t
+  not-named e none = untrue (mem e (namesOf (planOf b .belts))) (λ t. none (name-belt e t))
 
   pub named-is : (e : ℕ) → e < records b → mem e (namesOf (planOf b .belts)) ≡ eqb (kind b e) 2
-  named-is e h = go (test (eqb (kind b e) 2))
-    where
-      go : (eqb (kind b e) 2 ≡ true) ⊎ (eqb (kind b e) 2 ≡ false) → mem e (namesOf (planOf b .belts)) ≡ eqb (kind b e) 2
-      go (inl t) = belt-named e (h, eqb-true (kind b e) 2 t) ∙ sym t
-      go (inr t) = not-named e (λ o. eqb-false (kind b e) 2 t (o .1)) ∙ sym t
+  named-is e h =
+      alike (mem e (namesOf (planOf b .belts))) (eqb (kind b e) 2)
+      (λ t. eq-eqb (kind b e) 2 (name-belt e t .1)) (λ t. belt-named e (h, eqb-true (kind b e) 2 t))
 
   pub belts-rise : Rises (map (λ (x : Belt). x .name) (planOf b .belts))
   unfolding planOf
@@ -181,17 +182,10 @@ module _ {b : List ℕ} (ok : Accepted b) where
   chain-none = chain-end b
 
   pub leaves-on : (e j : ℕ) → IsBelt b e → 1 ≤ j → j ≤ planOf b .junctions → mem e (chain b (firstBelt b j)) ≡ eqb (leaves b e) j
-  leaves-on e j o l u = go (test (mem e (chain b (firstBelt b j)))) (test (eqb (leaves b e) j))
-    where
-      Out : Type 0
-      Out = mem e (chain b (firstBelt b j)) ≡ eqb (leaves b e) j
-
-      go : (mem e (chain b (firstBelt b j)) ≡ true) ⊎ (mem e (chain b (firstBelt b j)) ≡ false) → (eqb (leaves b e) j ≡ true) ⊎ (eqb (leaves b e) j ≡ false) → Out
-      go (inl m) q = m ∙ sym (eq-eqb (leaves b e) j (sym (one-chain e j l u (mem-in (chain b (firstBelt b j)) m))))
-      go (inr m) (inr q) = m ∙ sym q
-      go (inr m) (inl q) =
-          let on = subst (λ (i : ℕ). List·Memᴰ e (chain b (firstBelt b i))) (eqb-true (leaves b e) j q) (on-chain e o .2) in
-          absurd (never (in-mem (chain b (firstBelt b j)) on) m)
+  leaves-on e j o l u =
+      alike (mem e (chain b (firstBelt b j))) (eqb (leaves b e) j)
+      (λ m. eq-eqb (leaves b e) j (sym (one-chain e j l u (mem-in (chain b (firstBelt b j)) m))))
+      (λ q. in-mem (chain b (firstBelt b j)) (subst (λ (i : ℕ). List·Memᴰ e (chain b (firstBelt b i))) (eqb-true (leaves b e) j q) (on-chain e o .2)))
 
   pub belt-ends : (x : Belt) → List·Memᴰ x (planOf b .belts) → (1 ≤ x .leaves) × (x .leaves < x .leads) × (x .leads ≤ planOf b .junctions)
   unfolding planOf
@@ -208,7 +202,7 @@ module _ {b : List ℕ} (ok : Accepted b) where
       go (inr (inr f)) k = absurd (omega (arith, f .kind-4))
 
   pub belt-leaving : (x : Belt) → List·Memᴰ x (planOf b .belts) → List·Memᴰ x (leaving (planOf b) (x .leaves))
-  belt-leaving x m = in-keep (λ (y : Belt). eqb (y .leaves) (x .leaves)) (planOf b .belts) m (eq-eqb (x .leaves) (x .leaves) refl)
+  belt-leaving x m = in-leaving (planOf b) (x .leaves) x m refl
 
   pub belt-low : (e : ℕ) → IsBelt b e → (planOf b .junctions < e) × (e < records b) × (e < 2048)
   unfolding planOf

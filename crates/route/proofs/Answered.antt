@@ -13,19 +13,19 @@ use lib.ListN.{length, length-map}
 use Rattle.plan.specs.Plan.{Belt, planOf, namesOf}
 use Rattle.plan.specs.Reading.{Accepted, IsBelt}
 use Rattle.plan.proofs.Lists.{map-in}
-use Rattle.plan.proofs.Reading.{plan-sizes, belt-of}
+use Rattle.plan.proofs.Reading.{belt-of}
 use Rattle.route.specs.declared.relax.Relaxed.{Relaxed}
 use Rattle.route.specs.Routes.{IsRoute, cost, costLimit, beltsByName}
 use Rattle.route.specs.Subproblems.{relaxed}
 use Rattle.route.specs.Values.{idsOf, packed, Known, routeIn, relaxedAs}
 use Rattle.route.specs.Claims.{AnswerClaim}
-use Rattle.route.proofs.ByName.{names-belts, route-length, route-cost, route-belts, ids-packed}
+use Rattle.route.proofs.ByName.{names-belts, route-few, route-cheap, route-belts, ids-packed}
 use Rattle.route.proofs.Firsts.{relaxed-some}
 
 -- a route between junctions of the plan, as the code holds it
 module _ {b : List ℕ} (ok : Accepted b) (s t : ℕ) (r : List Belt) (h : IsRoute (planOf b) s t r) (low : 1 ≤ s) (high : t ≤ planOf b .junctions) where
   few : length (namesOf r) ≤ 255
-  few = omega (arith, route-length ok s t r h, plan-sizes ok .1, length-map r (λ (e : Belt). e .name))
+  few = omega (arith, route-few ok s t r low high h, length-map r (λ (e : Belt). e .name))
 
   known : Known b (packed (namesOf r))
   known = record { few = few; belts = belts }
@@ -53,5 +53,5 @@ answer-claim b ok bytes s t low high x v e h = go (relaxed (planOf b) s t x) ref
           known ok s t r i low high,
           ap {B = Option (List Belt)} some (sym here),
           ap cost (sym here),
-          omega (arith, route-cost ok bytes s t r i, route-length ok s t r i, plan-sizes ok .1),
+          route-cheap ok bytes s t r high i,
         )

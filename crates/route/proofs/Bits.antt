@@ -1,19 +1,62 @@
--- Settings as numbers: there is one with any modes on.
+-- Numbers by their bits: settings of modes, and masks.
 --
---   setting   for any choice of modes among 1 to M there is a setting below 2^M in which exactly the chosen ones are on
+--   isSet n k      bit k of n is 1
+--   or-power       setting bit i sets it and leaves the others
+--   bits-equal     numbers of n bits with the same bits are equal
+--   shifted        w bits do not cut the bit of a lower place
+--   setting        for any choice of modes among 1 to M there is a setting below 2^M in which exactly the chosen ones are on
 --
--- It is built mode by mode: `bit c + 2 * σ` has mode 1 on as c says (low-bit), and its higher modes are those of σ (high-bit).
--- Assumes nothing.
+-- Everything goes bit by bit: bit j + 1 of a number is bit j of its half (half-set). Assumes nothing.
 use mathlib.Core.Path.{_≡_, refl, sym, _∙_, ap}
-use mathlib.Core.Bool.{Bool, true, false}
-use Prim.Native.Nat.{ℕ, zero, suc, _+_, _*_, _-_, _/_, _%_, _^_, _≤_, _<_}
+use mathlib.Core.Bool.{Bool, true, false, _||_}
+use Prim.Native.Nat.{ℕ, zero, suc, _+_, _*_, _/_, _%_, _^_, _≤_, _<_}
 use native.Mathlib.Omega.{arith}
-use native.Mathlib.Nat.{div-div-eq-div-mul, pow-succ', two-pow-succ}
-use native.Mathlib.Numerals.{sub-one}
-use lib.Dec.{eqb}
+use native.Mathlib.Nat.{one-mul, div-eq-of-lt, two-pow-succ}
+use native.Mathlib.Numerals.{one-add, sub-one}
+use lib.Pow.{pow-pos, shl-exact, shr-shr}
+use lib.Bits.{bitOr, or-shr, or-mod}
+use lib.Dec.{eqb, lit<, eqb·zero-suc, eqb·suc-zero, eqb·suc-suc}
 use Rattle.route.specs.Permission.{isOn}
 
--- ---- one mode
+abbrev isSet : ℕ → ℕ → Bool
+isSet n k = eqb (n / 2 ^ k % 2) 1
+
+half-set : (n j : ℕ) → isSet n (suc j) ≡ isSet (n / 2) j
+half-set n j = ap (λ (m : ℕ). eqb (m % 2) 1) (ap (λ (k : ℕ). n / 2 ^ k) (sym (one-add j)) ∙ sym (shr-shr n 1 j))
+
+-- ---- setting a bit
+
+power-set : (i j : ℕ) → isSet (2 ^ i) j ≡ eqb j i
+power-set zero zero = refl
+power-set (suc i) zero =
+    let even : 2 ^ suc i / 2 ^ 0 % 2 ≡ 0 = omega (arith, two-pow-succ i) in
+    ap (λ (n : ℕ). eqb n 1) even ∙ sym (eqb·zero-suc i)
+power-set zero (suc j) =
+    let past : 2 ^ 0 / 2 ^ suc j ≡ 0 = div-eq-of-lt (omega (arith, pow-pos j, two-pow-succ j)) in
+    ap (λ (n : ℕ). eqb (n % 2) 1) past ∙ sym (eqb·suc-zero j)
+power-set (suc i) (suc j) =
+    let half : 2 ^ suc i / 2 ≡ 2 ^ i = omega (arith, two-pow-succ i) in
+    half-set (2 ^ suc i) j ∙ ap (λ (n : ℕ). isSet n j) half ∙ power-set i j ∙ sym (eqb·suc-suc j i)
+
+or-one : (x y : ℕ) → x < 2 → y < 2 → eqb (bitOr x y) 1 ≡ (eqb x 1 || eqb y 1)
+or-one zero zero h k = refl
+or-one zero (suc zero) h k = refl
+or-one zero (suc (suc y)) h k = absurd (omega arith)
+or-one (suc zero) zero h k = refl
+or-one (suc zero) (suc zero) h k = refl
+or-one (suc zero) (suc (suc y)) h k = absurd (omega arith)
+or-one (suc (suc x)) y h k = absurd (omega arith)
+
+pub or-power : (n i j : ℕ) → isSet (bitOr n (2 ^ i)) j ≡ (isSet n j || eqb j i)
+or-power n i j =
+    ap (λ (m : ℕ). eqb m 1) (ap (λ (m : ℕ). m % 2) (or-shr n (2 ^ i) j) ∙ or-mod (n / 2 ^ j) (2 ^ i / 2 ^ j) 1)
+    ∙ or-one (n / 2 ^ j % 2) (2 ^ i / 2 ^ j % 2) (omega arith) (omega arith)
+    ∙ ap (λ (t : Bool). isSet n j || t) (power-set i j)
+
+pub shifted : (k w : ℕ) → k < w → (1 * 2 ^ k) % 2 ^ w ≡ 2 ^ k
+shifted k w h = shl-exact 1 k w (lit< tt) (omega arith) ∙ one-mul (2 ^ k)
+
+-- ---- a bit as a number
 
 bit : Bool → ℕ
 bit true = 1
@@ -29,24 +72,39 @@ unfolding bit
 bit-eq true = refl
 bit-eq false = refl
 
-low-bit : (c : Bool) (σ : ℕ) → isOn (bit c + 2 * σ) 1 ≡ c
-low-bit c σ =
+bit-back : (x : ℕ) → x < 2 → x ≡ bit (eqb x 1)
+unfolding bit
+bit-back zero h = refl
+bit-back (suc zero) h = refl
+bit-back (suc (suc x)) h = absurd (omega arith)
+
+-- ---- numbers of n bits
+
+-- their halves are equal, and their last bits
+pub bits-equal : (n a c : ℕ) → a < 2 ^ n → c < 2 ^ n → ((k : ℕ) → k < n → isSet a k ≡ isSet c k) → a ≡ c
+bits-equal zero a c h k same = omega arith
+bits-equal (suc n) a c h k same =
+    let halves : a / 2 ≡ c / 2 =
+    bits-equal n (a / 2) (c / 2) (omega (arith, two-pow-succ n)) (omega (arith, two-pow-succ n)) (λ j l.
+    sym (half-set a j) ∙ same (suc j) (omega arith) ∙ half-set c j) in
+    let last : a / 2 ^ 0 % 2 ≡ c / 2 ^ 0 % 2 =
+    bit-back (a / 2 ^ 0 % 2) (omega arith) ∙ ap bit (same 0 (omega arith)) ∙ sym (bit-back (c / 2 ^ 0 % 2) (omega arith)) in
+    omega arith
+
+-- ---- settings
+
+-- `bit c + 2 * σ` has mode 1 on as c says, and its higher modes are those of σ
+low-mode : (c : Bool) (σ : ℕ) → isOn (bit c + 2 * σ) 1 ≡ c
+low-mode c σ =
     let e : (bit c + 2 * σ) / 1 % 2 ≡ bit c = omega (arith, bit-small c) in
     ap (λ (n : ℕ). eqb n 1) e ∙ bit-eq c
 
-high-bit : (c : Bool) (σ m : ℕ) → isOn (bit c + 2 * σ) (suc (suc m)) ≡ isOn σ (suc m)
-high-bit c σ m = ap (λ (n : ℕ). eqb (n % 2) 1) (as-halves ∙ sym (div-div-eq-div-mul (bit c + 2 * σ) 2 (2 ^ m)) ∙ of-half)
-  where
-    as-halves : (bit c + 2 * σ) / 2 ^ (suc (suc m) - 1) ≡ (bit c + 2 * σ) / (2 * 2 ^ m)
-    as-halves = ap (λ (n : ℕ). (bit c + 2 * σ) / n) (ap (λ (n : ℕ). 2 ^ n) (sub-one (suc (suc m))) ∙ pow-succ' 2 m)
-
-    half : (bit c + 2 * σ) / 2 ≡ σ
-    half = omega (arith, bit-small c)
-
-    of-half : (bit c + 2 * σ) / 2 / 2 ^ m ≡ σ / 2 ^ (suc m - 1)
-    of-half = ap (λ (n : ℕ). n / 2 ^ m) half ∙ ap (λ (n : ℕ). σ / 2 ^ n) (sym (sub-one (suc m)))
-
--- ---- all modes
+high-mode : (c : Bool) (σ m : ℕ) → isOn (bit c + 2 * σ) (suc (suc m)) ≡ isOn σ (suc m)
+high-mode c σ m =
+    let half : (bit c + 2 * σ) / 2 ≡ σ = omega (arith, bit-small c) in
+    ap (isSet (bit c + 2 * σ)) (sub-one (suc (suc m)))
+    ∙ half-set (bit c + 2 * σ) m
+    ∙ (λ i. isSet (half i) (sym (sub-one (suc m)) i))
 
 pub setting : (g : ℕ → Bool) (M : ℕ) → (σ : ℕ) × (σ < 2 ^ M) × ((m : ℕ) → 1 ≤ m → m ≤ M → isOn σ m ≡ g m)
 setting g zero = (0, omega arith, λ m l u. absurd (omega arith))
@@ -56,5 +114,5 @@ setting g (suc M) =
   where
     at : (σ : ℕ) → ((m : ℕ) → 1 ≤ m → m ≤ M → isOn σ m ≡ g (suc m)) → (m : ℕ) → 1 ≤ m → m ≤ suc M → isOn (bit (g 1) + 2 * σ) m ≡ g m
     at σ higher zero l u = absurd (omega arith)
-    at σ higher (suc zero) l u = low-bit (g 1) σ
-    at σ higher (suc (suc m)) l u = high-bit (g 1) σ m ∙ higher (suc m) (omega arith) (omega arith)
+    at σ higher (suc zero) l u = low-mode (g 1) σ
+    at σ higher (suc (suc m)) l u = high-mode (g 1) σ m ∙ higher (suc m) (omega arith) (omega arith)

@@ -9,33 +9,40 @@
 --   connects-route   belts of the plan that connect s to t are a route from s to t
 --   route-connects   a route from s to t connects them
 --   route-belts      its belts are the plan's
+--   passes-names     it passes the belts whose names it has
 --   route-length     it has at most t - s belts: each leads higher
 --   route-cost       THE BOUND of its cost: 65,535 for each belt
+--   route-few, route-cheap
+--                    so between junctions it has at most 255 belts, and costs less than costLimit
 --   cost-append      the cost of two lists in a row is the sum of theirs
+--   ends-junctions   s and t are junctions where they are no wrong ends
 -- Routes as the code holds them:
 --   ids-packed       a packed route holds the belts that were packed
+--   packed-sets      belts stored from the front of an array of 255 are `packed`
 --   known-route      the belts that a known Route holds are the belts at their records
 --
 -- Assumes nothing.
 use mathlib.Core.Path.{_≡_, refl, sym, _∙_, ap}
 use mathlib.Core.Logic.{_⊎_, inl, inr}
-use mathlib.Core.Bool.{Bool, true, false}
-use Prim.Native.Nat.{ℕ, _+_, _*_, _-_, _≤_}
-use mathlib.Core.List.{List, [], _∷_, _++_, map, List·Memᴰ, List·Memᴰ·head, List·Memᴰ·tail, List·Memᴰ·not-nil, List·Memᴰ·cases-cons, Memᴰ·cast, map-map, map-id}
+use mathlib.Core.Bool.{Bool, true, false, _&&_, _||_}
+use Prim.Native.Nat.{ℕ, _+_, _*_, _-_, _≤_, _<_}
+use mathlib.Core.List.{List, [], _∷_, _++_, map, List·Memᴰ, List·Memᴰ·head, List·Memᴰ·tail, List·Memᴰ·not-nil, List·Memᴰ·cases-cons, map-map, map-id}
 use native.Mathlib.Omega.{arith}
 use lib.ListN.{length, replicate, length-map}
-use lib.Seq.{take-at}
+use lib.Seq.{take-at, sets}
 use lib.Dec.{eqb}
-use borrow.Author.Tests.{eqb-true, eq-eqb, ne-eqb}
+use borrow.Author.Tests.{eqb-true, eq-eqb, ne-eqb, not-false}
 use Rattle.plan.specs.declared.read.BeltId.{BeltId}
-use Rattle.plan.specs.Lists.{all, kept, keep, mem}
+use Rattle.plan.specs.Lists.{all, kept, keep, mem, within}
 use Rattle.plan.specs.Plan.{Belt, Plan, planOf, beltAt, namesOf, beltId}
 use Rattle.plan.specs.Reading.{Accepted, Bytes, IsBelt}
-use Rattle.plan.proofs.Lists.{both, and-is, all-in, keep-in, keep-none, in-map, joined-in}
+use Rattle.plan.proofs.Lists.{both, and-is, eqb-sym, within-is, each, all-in, keep-in, keep-none, in-map, joined-in}
 use Rattle.plan.proofs.Rising.{Rises, more}
-use Rattle.plan.proofs.Reading.{belt-in, name-belt, belts-rise, belt-ends, belts-cost}
+use Rattle.plan.proofs.Places.{ids-sets}
+use Rattle.plan.proofs.Reading.{plan-sizes, belt-in, name-belt, belts-rise, belt-ends, belts-cost}
 use Rattle.route.specs.declared.path.Route.{Route}
-use Rattle.route.specs.Routes.{IsRoute, connects, cost, beltsByName}
+use Rattle.route.specs.Routes.{wrongEnds, IsRoute, connects, cost, costLimit, beltsByName}
+use Rattle.route.specs.Permission.{passes}
 use Rattle.route.specs.Values.{idsOf, packed, Known, routeIn}
 
 -- ---- the belt of a name
@@ -89,9 +96,15 @@ module _ {b : List ℕ} (ok : Accepted b) where
   route-length s t [] h = omega arith
   route-length s t (e ∷ r) h = omega (arith, h .1, belt-ends ok e (h .0) .1, route-length (e .leads) t r (h .2))
 
-  pub route-cost : Bytes b → (s t : ℕ) (r : List Belt) → IsRoute (planOf b) s t r → cost r ≤ 65535 * length r
+  route-cost : Bytes b → (s t : ℕ) (r : List Belt) → IsRoute (planOf b) s t r → cost r ≤ 65535 * length r
   route-cost bytes s t [] h = omega arith
   route-cost bytes s t (e ∷ r) h = omega (arith, belts-cost ok bytes e (h .0), route-cost bytes (e .leads) t r (h .2))
+
+  pub route-few : (s t : ℕ) (r : List Belt) → 1 ≤ s → t ≤ planOf b .junctions → IsRoute (planOf b) s t r → length r ≤ 255
+  route-few s t r low inside h = omega (arith, route-length s t r h, plan-sizes ok .1)
+
+  pub route-cheap : Bytes b → (s t : ℕ) (r : List Belt) → t ≤ planOf b .junctions → IsRoute (planOf b) s t r → cost r < costLimit
+  route-cheap bytes s t r inside h = omega (arith, route-cost bytes s t r h, route-length s t r h, plan-sizes ok .1)
 
 pub named-in : (p : Plan) (es : List ℕ) (e : Belt) → List·Memᴰ e (beltsByName p es) → List·Memᴰ e (p .belts)
 named-in p es e m =
@@ -105,15 +118,23 @@ route-connects p s t (e ∷ r) h =
 
 pub route-belts : (p : Plan) (s t : ℕ) (r : List Belt) → IsRoute p s t r → (e : Belt) → List·Memᴰ e r → List·Memᴰ e (p .belts)
 route-belts p s t [] h e m = absurd (List·Memᴰ·not-nil m)
-route-belts p s t (f ∷ r) h e m = go (List·Memᴰ·cases-cons m) (route-belts p (f .leads) t r (h .2) e)
-  where
-    go : (e ≡ f) ⊎ List·Memᴰ e r → (List·Memᴰ e r → List·Memᴰ e (p .belts)) → List·Memᴰ e (p .belts)
-    go (inl q) below = Memᴰ·cast q (h .0)
-    go (inr k) below = below k
+route-belts p s t (f ∷ r) h e m = each (λ (e : Belt). List·Memᴰ e (p .belts)) (h .0) (route-belts p (f .leads) t r (h .2)) e m
+
+pub passes-names : (r : List Belt) (e : ℕ) → passes r e ≡ mem e (namesOf r)
+passes-names [] e = refl
+passes-names (x ∷ r) e = λ i. eqb-sym (x .name) e i || passes-names r e i
 
 pub cost-append : (x y : List Belt) → cost (x ++ y) ≡ cost x + cost y
 cost-append [] y = omega arith
 cost-append (e ∷ x) y = omega (arith, cost-append x y)
+
+pub ends-junctions : (p : Plan) (s t : ℕ) → wrongEnds p s t ≡ false → (1 ≤ s) × (s ≤ p .junctions) × (1 ≤ t) × (t ≤ p .junctions)
+ends-junctions p s t h =
+    let J = p .junctions in
+    let (k, l) = both (within 1 s J) (within 1 t J) (not-false (within 1 s J && within 1 t J) h) in
+    let (a, b) = within-is 1 s J k in
+    let (c, d) = within-is 1 t J l in
+    (a, b, c, d)
 
 -- ---- routes as the code holds them
 
@@ -122,6 +143,9 @@ ids-packed es h =
     ap (map (λ (e : BeltId). e .0)) (take-at (map beltId es) (replicate (255 - length es) (beltId 0)) (length es) (length-map es beltId))
     ∙ map-map (λ (e : BeltId). e .0) beltId es
     ∙ map-id es
+
+pub packed-sets : (es : List ℕ) → length es ≤ 255 → sets (replicate 255 (beltId 0)) 0 (map beltId es) ≡ packed es .belts
+packed-sets = ids-sets 255
 
 pub known-route : {b : List ℕ} → Accepted b → (r : Route) → Known b r → routeIn b r ≡ map (beltAt b) (idsOf r)
 known-route ok r k = named-map ok (idsOf r) (k .belts)

@@ -19,13 +19,12 @@ use mathlib.Core.Bool.{Bool, true, false, not, _&&_}
 use Prim.Native.Nat.{ℕ, _^_, _≤_}
 use mathlib.Core.List.{List, [], _∷_, _++_, map, List·Memᴰ, List·Memᴰ·head, List·Memᴰ·tail, List·Memᴰ·eq-of-singleton, List·Memᴰ·append-cases, Memᴰ·append-left, Memᴰ·append-right}
 use lib.Dec.{eqb, ltb}
-use borrow.Author.Tests.{not-false}
 use Rattle.plan.specs.Lists.{all, mem, within}
 use Rattle.plan.specs.Plan.{planOf, namesOf}
 use Rattle.plan.specs.Refusals.{Line, planLines, firstBroken, refusal}
 use Rattle.plan.specs.Claims.{Unbroken}
 use Rattle.plan.specs.Reading.{Accepted}
-use Rattle.plan.proofs.Lists.{both, and-is, within-is, is-within, in-map, map-in}
+use Rattle.plan.proofs.Lists.{and-is, is-within, in-map, map-in}
 use Rattle.plan.proofs.First.{on-broken, on-unbroken, past, none-broken, first-exactly, passed}
 use Rattle.plan.proofs.Accepted.{unbroken}
 use Rattle.route.specs.Refusals.{Case, onPlan, broken8, broken11, broken12, broken13, broken14, queryLines, sheetLines, checkLines, sheetRefusal}
@@ -36,6 +35,7 @@ use Rattle.route.specs.Sheets.{inForm, beltsOn, costOn, settingOn}
 use Rattle.route.specs.Values.{idsOf}
 use Rattle.route.specs.Inner.{sheetBy, contentRefusal}
 use Rattle.route.specs.Claims.{FirstRefusalClaim}
+use Rattle.route.proofs.ByName.{ends-junctions}
 
 pub first-refusal : FirstRefusalClaim
 unfolding sheetRefusal
@@ -168,9 +168,4 @@ module _ (k : Case) where
 
   pub ends-inside : broken8 k ≡ false → (1 ≤ k .s) × (k .s ≤ planOf (k .plan) .junctions) × (1 ≤ k .t) × (k .t ≤ planOf (k .plan) .junctions)
   unfolding broken8
-  ends-inside e =
-      let J = planOf (k .plan) .junctions in
-      let w = both (within 1 (k .s) J) (within 1 (k .t) J) (not-false (within 1 (k .s) J && within 1 (k .t) J) e) in
-      let (a, b) = within-is 1 (k .s) J (w .0) in
-      let (c, d) = within-is 1 (k .t) J (w .1) in
-      (a, b, c, d)
+  ends-inside e = ends-junctions (planOf (k .plan)) (k .s) (k .t) e

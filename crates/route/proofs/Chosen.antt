@@ -5,7 +5,7 @@
 --
 -- Assumes nothing.
 use mathlib.Core.Path.{_≡_, refl, sym, _∙_, ap, subst}
-use mathlib.Core.Bool.{Bool, true, _||_}
+use mathlib.Core.Bool.{Bool, true, _||_, or-comm}
 use mathlib.Core.Option.{Option, none, some}
 use Prim.Native.Nat.{ℕ, _%_, _^_, _<_}
 use mathlib.Core.List.{List, [], _∷_, List·Memᴰ, List·Memᴰ·head, List·Memᴰ·tail}
@@ -22,14 +22,14 @@ use Rattle.plan.specs.Reading.{Accepted}
 use Rattle.plan.proofs.Lists.{keep-in, in-mem, mem-in}
 use Rattle.plan.proofs.Rising.{Rises}
 use Rattle.plan.proofs.Naming.{named-rises}
-use Rattle.plan.proofs.Places.{at-place, place-in}
+use Rattle.plan.proofs.Places.{at-place, place-in, place-at}
 use Rattle.route.specs.declared.relax.Fixings.{Fixings}
 use Rattle.route.specs.Subproblems.{Subproblem, admits, relaxed}
 use Rattle.route.specs.Values.{inMask, fixedIn, subproblemIn}
 use Rattle.route.specs.Inner.{withPlace}
 use Rattle.route.specs.Claims.{BitClaim, MasksClaim}
 use Rattle.route.proofs.Firsts.{admits-is, is-admits, relaxed-some, relaxed-none, is-relaxed, no-relaxed}
-use Rattle.route.proofs.Fixed.{fixed-mem, place-at, with-belt}
+use Rattle.route.proofs.Fixed.{fixed-mem, with-belt}
 
 pub bit-claim : BitClaim
 bit-claim b m k l =
@@ -55,7 +55,9 @@ module _ {ns : List ℕ} (rises : Rises ns) where
       → inMask (maskOf ns es) (placeOf ns e) ≡ mem e es
   mask-has [] h e i = ap (inMask 0) (place-in e ns i) ∙ ap (λ (n : ℕ). eqb (n % 2) 1) (zero-div (2 ^ count (λ (n : ℕ). ltb n e) ns))
   mask-has (x ∷ es) h e i =
-      with-belt rises (maskOf ns es) x e (h x (List·Memᴰ·head refl)) i ∙ ap (λ (t : Bool). eqb e x || t) (mask-has es (λ f m. h f (List·Memᴰ·tail m)) e i)
+      with-belt rises (maskOf ns es) x e (h x (List·Memᴰ·head refl)) i
+      ∙ ap (λ (t : Bool). t || eqb e x) (mask-has es (λ f m. h f (List·Memᴰ·tail m)) e i)
+      ∙ or-comm (mem e es) (eqb e x)
 
   -- it fixes exactly the belts es
   mask-in : (es : List ℕ) → ((e : ℕ) → List·Memᴰ e es → List·Memᴰ e ns) → (e : ℕ) → List·Memᴰ e es → List·Memᴰ e (fixedIn ns (maskOf ns es))

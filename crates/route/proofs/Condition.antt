@@ -17,7 +17,7 @@ use mathlib.Core.Bool.{Bool, true, false, not, _&&_, _||_, Bool·beq, true≢fal
 use mathlib.Core.List.{List, [], _∷_, map, List·Memᴰ, List·Memᴰ·head, List·Memᴰ·tail, List·Memᴰ·not-nil, List·Memᴰ·cases-cons, Memᴰ·cast}
 use borrow.Author.Tests.{eqb-true, eq-eqb}
 use Rattle.plan.specs.Lists.{any}
-use Rattle.plan.proofs.Lists.{test, both, never, beq-true, beq-refl, eqb-sym, in-any, any-some, in-map}
+use Rattle.plan.proofs.Lists.{test, both, never, untrue, alike, beq-true, beq-refl, eqb-sym, in-any, any-some, in-map}
 use Rattle.route.specs.Lcsp.{Var, graph, free, Lit, ¬ₗ, sameVar, sameLit, Clause, Formula, _∈?_, Consistent, unless, without, lacking, _∣_, _∥_, Satisfies}
 use Rattle.route.specs.Claims.{OrderFreeClaim}
 
@@ -84,11 +84,7 @@ set-in : (l : Lit) (α : List Lit) → (l ∈? α) ≡ true → List·Memᴰ l �
 set-in l α h = let (m, k, e) = any-some (sameLit l) α (sym (set-any l α) ∙ h) in Memᴰ·cast (lit-true l m e) k
 
 pub not-in : (l : Lit) (α : List Lit) → (List·Memᴰ l α → ⊥) → (l ∈? α) ≡ false
-not-in l α h = go (test (l ∈? α))
-  where
-    go : ((l ∈? α) ≡ true) ⊎ ((l ∈? α) ≡ false) → (l ∈? α) ≡ false
-    go (inl t) = absurd (h (set-in l α t))
-    go (inr t) = t
+not-in l α h = untrue (l ∈? α) (λ t. h (set-in l α t))
 
 -- ---- a clause that holds a literal of T
 
@@ -223,11 +219,8 @@ hit-satisfied T Φ c h = left-is T Φ c ∙ none-left (among T) Φ (λ α m. pas
 -- ---- the order does not matter
 
 same-members : (T U : List Lit) → ((l : Lit) → List·Memᴰ l T ↔ List·Memᴰ l U) → (l : Lit) → among T l ≡ among U l
-same-members T U same l = go (test (among T l))
-  where
-    go : (among T l ≡ true) ⊎ (among T l ≡ false) → among T l ≡ among U l
-    go (inl t) = t ∙ sym (in-set l U (same l .0 (set-in l T t)))
-    go (inr t) = t ∙ sym (not-in l U (λ k. never (in-set l T (same l .1 k)) t))
+same-members T U same l =
+    alike (among T l) (among U l) (λ t. in-set l U (same l .0 (set-in l T t))) (λ t. in-set l T (same l .1 (set-in l U t)))
 
 pub order-free : OrderFreeClaim
 order-free X T U Φ assigns same = left-is T Φ consistent ∙ ap (λ (f : Lit → Bool). left f Φ) tests ∙ sym (left-is U Φ back)

@@ -5,7 +5,7 @@
 --   cut-claim       the cut as it is claimed (CutClaim)
 --
 -- Assumes nothing.
-use mathlib.Core.Path.{_≡_, refl, sym, _∙_, ap, subst}
+use mathlib.Core.Path.{_≡_, refl, sym, _∙_, ap}
 use mathlib.Core.Logic.{_⊎_, inl, inr}
 use mathlib.Core.Bool.{true, false}
 use Prim.Native.Nat.{ℕ, _≤_, _<_}
@@ -15,7 +15,7 @@ use lib.Dec.{eqb, ltb}
 use borrow.Author.Tests.{eqb-true, eq-eqb, ltb-true, ltb-false}
 use Rattle.plan.specs.Plan.{Belt, Plan, planOf}
 use Rattle.plan.specs.Reading.{Accepted}
-use Rattle.plan.proofs.Lists.{test, in-any, any-some}
+use Rattle.plan.proofs.Lists.{test, each, in-any, any-some}
 use Rattle.plan.proofs.Reading.{belt-name, belt-ends}
 use Rattle.route.specs.Routes.{IsRoute}
 use Rattle.route.specs.Permission.{passes}
@@ -37,12 +37,10 @@ module _ {b : List ℕ} (ok : Accepted b) where
 
   pub route-between : (s t : ℕ) (r : List Belt) → IsRoute (planOf b) s t r → (e : Belt) → List·Memᴰ e r → (s ≤ e .leaves) × (e .leads ≤ t)
   route-between s t [] h e m = absurd (List·Memᴰ·not-nil m)
-  route-between s t (a ∷ r) h e m = go (List·Memᴰ·cases-cons m) (route-between (a .leads) t r (h .2) e)
-    where
-      go : (e ≡ a) ⊎ List·Memᴰ e r → (List·Memᴰ e r → (a .leads ≤ e .leaves) × (e .leads ≤ t)) → (s ≤ e .leaves) × (e .leads ≤ t)
-      go (inl q) below =
-          subst (λ (y : Belt). (s ≤ y .leaves) × (y .leads ≤ t)) (sym q) (omega (arith, h .1), ends-claim b ok (a .leads) t r (h .2) .0)
-      go (inr k) below = let (l, u) = below k in (omega (arith, h .1, belt-ends ok a (h .0) .1, l), u)
+  route-between s t (a ∷ r) h e m =
+      each (λ (f : Belt). (s ≤ f .leaves) × (f .leads ≤ t)) (omega (arith, h .1), ends-claim b ok (a .leads) t r (h .2) .0) (λ f k.
+      let (l, u) = route-between (a .leads) t r (h .2) f k in
+      (omega (arith, h .1, belt-ends ok a (h .0) .1, l), u)) e m
 
   -- where a belt of a route leaves, those before it have arrived and those after it have not left: no other crosses
   alone : (s t : ℕ) (r : List Belt) → IsRoute (planOf b) s t r

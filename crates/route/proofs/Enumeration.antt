@@ -1,6 +1,6 @@
 -- `routes` lists exactly the routes from s to t, each once.
 --
---   keep-names-rise   what is kept of belts of rising names has rising names
+--   leaving-rises     the belts leaving a junction have rising names
 --   routes-claim      the listed lists are the routes, and none is listed twice (RoutesClaim)
 --
 -- Assumes nothing.
@@ -15,9 +15,9 @@ use borrow.Author.Tests.{eqb-true, eq-eqb, ne-eqb}
 use Rattle.plan.specs.Lists.{kept, keep, joined}
 use Rattle.plan.specs.Plan.{Belt, Plan, planOf, namesOf, leaving}
 use Rattle.plan.specs.Reading.{Accepted}
-use Rattle.plan.proofs.Lists.{in-keep, keep-in, in-map, map-in, in-joined, joined-in}
+use Rattle.plan.proofs.Lists.{keep-in, in-map, map-in, in-joined, joined-in}
 use Rattle.plan.proofs.Rising.{Rises, more}
-use Rattle.plan.proofs.Reading.{belts-rise, belt-ends}
+use Rattle.plan.proofs.Reading.{in-leaving, leaving-in, belts-rise, belt-ends}
 use Rattle.route.specs.Routes.{IsRoute, stay, routesOf, Distinct}
 use Rattle.route.specs.Claims.{RoutesClaim}
 use Rattle.route.proofs.Order.{ends-claim}
@@ -48,8 +48,8 @@ module _ (p : Plan) (t : ℕ) where
   onward-sound f below s r m =
       let (e, k, l) = joined-in (via f) (leaving p s) m in
       let (q, n, w) = map-in (λ (r : List Belt). e ∷ r) (f (e .leads)) l in
-      let (i, g) = keep-in (λ (e : Belt). eqb (e .leaves) s) (p .belts) k in
-      subst (IsRoute p s t) (sym w) (i, eqb-true (e .leaves) s g, below (e .leads) q n)
+      let (i, g) = leaving-in p s e k in
+      subst (IsRoute p s t) (sym w) (i, g, below (e .leads) q n)
 
   from-sound : (s : ℕ) (here : Bool) → eqb s t ≡ here → (rs : List (List Belt)) (r : List Belt) → (List·Memᴰ r rs → IsRoute p s t r)
       → List·Memᴰ r (from here rs) → IsRoute p s t r
@@ -83,7 +83,7 @@ module _ {b : List ℕ} (ok : Accepted b) (t : ℕ) where
       let top : e .leads ≤ t = ends-claim b ok (e .leads) t r (h .2) .0 in
       later-listed s (onward (planOf b) s f) (e ∷ r) (omega arith)
       (in-joined (via f)
-      (in-keep (λ (x : Belt). eqb (x .leaves) s) (planOf b .belts) (h .0) (eq-eqb (e .leaves) s w))
+      (in-leaving (planOf b) s e (h .0) w)
       (in-map (λ (q : List Belt). e ∷ q) (complete n (e .leads) r (omega arith) (h .2))))
 
 -- ---- no route is listed twice
@@ -122,7 +122,7 @@ distinct-joined f d (e ∷ es) (more h r) =
         omega (arith, h (g .name) (in-map (λ (u : Belt). u .name) i))
 
 -- what is kept of belts of rising names has rising names
-pub keep-names-rise : (f : Belt → Bool) (xs : List Belt) → Rises (namesOf xs) → Rises (namesOf (keep f xs))
+keep-names-rise : (f : Belt → Bool) (xs : List Belt) → Rises (namesOf xs) → Rises (namesOf (keep f xs))
 keep-names-rise f [] r = r
 keep-names-rise f (x ∷ xs) (more h r) = go (f x) (keep-names-rise f xs r)
   where
@@ -135,6 +135,9 @@ keep-names-rise f (x ∷ xs) (more h r) = go (f x) (keep-names-rise f xs r)
     go true k = more above k
     go false k = k
 
+pub leaving-rises : {b : List ℕ} → Accepted b → (j : ℕ) → Rises (namesOf (leaving (planOf b) j))
+leaving-rises {b} ok j = keep-names-rise (λ (e : Belt). eqb (e .leaves) j) (planOf b .belts) (belts-rise ok)
+
 from-distinct : (here : Bool) (rs : List (List Belt)) → Distinct rs → Distinct (from here rs)
 from-distinct true rs d = (λ m. List·Memᴰ·not-nil m, tt)
 from-distinct false rs d = d
@@ -145,7 +148,7 @@ module _ {b : List ℕ} (ok : Accepted b) (t : ℕ) where
   distinct (suc n) s =
       from-distinct (eqb s t) (onward (planOf b) s (λ (u : ℕ). routesOf (planOf b) n u t))
       (distinct-joined (λ (u : ℕ). routesOf (planOf b) n u t) (λ u. distinct n u) (leaving (planOf b) s)
-      (keep-names-rise (λ (e : Belt). eqb (e .leaves) s) (planOf b .belts) (belts-rise ok)))
+      (leaving-rises ok s))
 
 pub routes-claim : RoutesClaim
 routes-claim b ok s t =

@@ -11,12 +11,12 @@ use mathlib.Core.Logic.{_⊎_, inl, inr}
 use mathlib.Core.Bool.{Bool, true, false, not}
 use mathlib.Core.Option.{Option, none, some}
 use Prim.Native.Nat.{ℕ}
-use mathlib.Core.List.{List, [], _∷_, List·Memᴰ, List·Memᴰ·head, List·Memᴰ·tail, List·Memᴰ·not-nil, List·Memᴰ·cases-cons}
+use mathlib.Core.List.{List, [], _∷_, List·Memᴰ, List·Memᴰ·head, List·Memᴰ·tail, List·Memᴰ·not-nil}
 use borrow.Author.Tests.{not-true}
 use Rattle.plan.specs.Lists.{any, all, keep}
 use Rattle.plan.specs.Plan.{Belt, planOf}
 use Rattle.plan.specs.Reading.{Accepted}
-use Rattle.plan.proofs.Lists.{test, both, and-is, never, all-in, all-is, any-none, none-any, in-keep, keep-in}
+use Rattle.plan.proofs.Lists.{both, and-is, never, untrue, each, all-in, all-is, any-none, none-any, in-keep, keep-in}
 use Rattle.route.specs.Routes.{IsRoute, before, routes}
 use Rattle.route.specs.Permission.{passes}
 use Rattle.route.specs.Subproblems.{Subproblem, admits, earlier, firstOf, relaxed}
@@ -56,21 +56,16 @@ first-same to from (some r) h = (to r (h .0), λ q m. h .1 q (from q m))
 -- one more route in front
 first-earlier : (r : List Belt) (rs : List (List Belt)) (o : Option (List Belt)) → First (λ q. List·Memᴰ q rs) o
     → First (λ q. List·Memᴰ q (r ∷ rs)) (earlier r o)
-first-earlier r rs none h = (List·Memᴰ·head refl, λ q m. go q (List·Memᴰ·cases-cons m))
-  where
-    go : (q : List Belt) → (q ≡ r) ⊎ List·Memᴰ q rs → before q r ≡ false
-    go q (inl e) = ap (λ (y : List Belt). before y r) e ∙ before-irrefl r
-    go q (inr m) = absurd (h q m)
+first-earlier r rs none h = (List·Memᴰ·head refl, each (λ (q : List Belt). before q r ≡ false) (before-irrefl r) (λ q m. absurd (h q m)))
 first-earlier r rs (some f) h = go (before f r) refl
   where
     -- where neither r nor the first of the others comes before w, none of them all does
-    none-before : (w : List Belt) → before r w ≡ false → before f w ≡ false → (q : List Belt) → (q ≡ r) ⊎ List·Memᴰ q rs → before q w ≡ false
-    none-before w a k q (inl e) = ap (λ (y : List Belt). before y w) e ∙ a
-    none-before w a k q (inr m) = not-before-trans q f w (h .1 q m) k
+    none-before : (w : List Belt) → before r w ≡ false → before f w ≡ false → (q : List Belt) → List·Memᴰ q (r ∷ rs) → before q w ≡ false
+    none-before w a k = each (λ (q : List Belt). before q w ≡ false) a (λ q m. not-before-trans q f w (h .1 q m) k)
 
     go : (t : Bool) → before f r ≡ t → First (λ q. List·Memᴰ q (r ∷ rs)) (elim t [ true ↦ some f | false ↦ some r ])
-    go true k = (List·Memᴰ·tail (h .0), λ q m. none-before f (before-asym f r k) (before-irrefl f) q (List·Memᴰ·cases-cons m))
-    go false k = (List·Memᴰ·head refl, λ q m. none-before r (before-irrefl r) k q (List·Memᴰ·cases-cons m))
+    go true k = (List·Memᴰ·tail (h .0), none-before f (before-asym f r k) (before-irrefl f))
+    go false k = (List·Memᴰ·head refl, none-before r (before-irrefl r) k)
 
 first-of : (rs : List (List Belt)) → First (λ q. List·Memᴰ q rs) (firstOf rs)
 first-of [] = λ q m. List·Memᴰ·not-nil m
@@ -135,8 +130,6 @@ relaxed-claim b ok s t x = (λ r. (to r, from r), (relaxed-none ok s t x, no-rel
         go q n (inr k) = absurd (never k n)
 
     from : (r : List Belt) → Least r → relaxed (planOf b) s t x ≡ some r
-    from r (i, a, first) = is-relaxed ok s t x r i a (λ q j c. go q (first q j c) (test (before q r)))
-      where
-        go : (q : List Belt) → ((q ≡ r → ⊥) → before r q ≡ true) → (before q r ≡ true) ⊎ (before q r ≡ false) → before q r ≡ false
-        go q other (inl k) = before-asym r q (other (λ e. never k (ap (λ (y : List Belt). before y r) e ∙ before-irrefl r)))
-        go q other (inr k) = k
+    from r (i, a, first) =
+        is-relaxed ok s t x r i a (λ q j c. untrue (before q r) (λ k.
+        never k (before-asym r q (first q j c (λ e. never k (ap (λ (y : List Belt). before y r) e ∙ before-irrefl r))))))

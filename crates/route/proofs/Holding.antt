@@ -10,16 +10,17 @@
 --
 -- Assumes nothing.
 use mathlib.Core.Path.{_≡_, refl, sym, _∙_, ap}
-use mathlib.Core.Bool.{Bool, Bool·beq, _||_}
+use mathlib.Core.Bool.{Bool, Bool·beq}
 use Prim.Native.Nat.{ℕ, _^_}
-use mathlib.Core.List.{List, [], _∷_, map, List·Memᴰ}
+use mathlib.Core.List.{List, List·Memᴰ}
 use Rattle.plan.specs.declared.read.BeltId.{BeltId}
 use Rattle.plan.specs.declared.read.Literal.{Literal}
 use Rattle.plan.specs.declared.read.Literal.the-variants.{OfBelt, OfMode}
 use Rattle.plan.specs.Lists.{mem, run}
-use Rattle.plan.specs.Plan.{Belt, planOf, beltAt}
+use Rattle.plan.specs.Plan.{Belt, planOf, namesOf}
 use Rattle.plan.specs.Reading.{Accepted, IsBelt}
-use Rattle.plan.proofs.Lists.{eqb-sym, any-cong, all-cong}
+use Rattle.plan.proofs.Lists.{any-cong, all-cong}
+use Rattle.plan.proofs.Naming.{names-back}
 use Rattle.plan.proofs.Reading.{literal-belt, belt-low}
 use Rattle.route.specs.declared.path.Route.{Route}
 use Rattle.route.specs.Routes.{beltsByName}
@@ -27,7 +28,7 @@ use Rattle.route.specs.Permission.{passes, holds, met, allMet, lowest}
 use Rattle.route.specs.Values.{idsOf, Known, routeIn, marksOf, marked}
 use Rattle.route.specs.Inner.{Low}
 use Rattle.route.proofs.Lowest.{find-cong}
-use Rattle.route.proofs.ByName.{named-map}
+use Rattle.route.proofs.ByName.{named-map, passes-names}
 use Rattle.route.proofs.Marks.{marked-is}
 
 -- ---- tests that agree
@@ -52,16 +53,12 @@ permitted-same rules m x y h = lowest-cong rules m (passes x) (passes y) h
 
 -- ---- the belts of a route
 
-passes-mem : (b : List ℕ) (es : List ℕ) (e : ℕ) → passes (map (beltAt b) es) e ≡ mem e es
-passes-mem b [] e = refl
-passes-mem b (x ∷ es) e = λ i. eqb-sym x e i || passes-mem b es e i
-
 module _ {b : List ℕ} (ok : Accepted b) where
   pub known-low : (r : Route) → Known b r → Low r
   known-low r k = record { few = k .few; low = λ e m. belt-low ok e (k .belts e m) .2 }
 
   passes-named : (es : List ℕ) → ((e : ℕ) → List·Memᴰ e es → IsBelt b e) → (e : ℕ) → passes (beltsByName (planOf b) es) e ≡ mem e es
-  passes-named es h e = ap (λ (r : List Belt). passes r e) (named-map ok es h) ∙ passes-mem b es e
+  passes-named es h e = passes-names (beltsByName (planOf b) es) e ∙ ap (mem e) (ap namesOf (named-map ok es h) ∙ names-back b es)
 
   -- the marks tell of each belt that a rule names what the route does
   marks-agree : (r : Route) → Known b r → AgreeOn (planOf b .rules) (marked (marksOf (idsOf r))) (passes (routeIn b r))

@@ -1,52 +1,63 @@
 -- Looking at the belts that leave a junction, one by one: what the way that is kept says of all of them.
 --
---   price x costs limit e   the cost of the cheapest way on by belt e
---   must x e                belt e is required
---   Alone x es e            belt e stands alone: no other belt of es is required. A route has one belt that leaves a junction on its way, so that only a
---                           belt that stands alone can be taken
+--   by-none, by-some, over-open, over-shut
+--                     what the way on by a belt costs, by the definitions
+--   Alone x es e      belt e stands alone: no other belt of es is required. A route has one belt that leaves a junction on its way, so that only
+--                     a belt that stands alone can be taken
+--   Wins x costs limit e f
+--                     the way on by belt e costs less than that by f, or as much and e has no higher name
 --   Looked x costs limit es way
---                           of the belts of es that stand alone, way has the first of the cheapest (chosen), or there is no way on by any (blocked)
---   looked                  this is so once the belts es, of rising names, are looked at
---   looked-required         and then the way is marked exactly if one of them is required
+--                     of the belts of es that stand alone, way has the first of the cheapest (chosen), or there is no way on by any (blocked)
+--   looked            this is so once the belts es, of rising names, are looked at
+--   looked-required   and then the way is marked exactly if one of them is required
 --
 -- There are two cases. Where no belt is required, each stands alone, and the first of the cheapest is kept. Where one is, it alone can
 -- stand alone, and it is kept whatever it costs; unless a second one is required too, and then none stands alone. Assumes nothing.
 use mathlib.Core.Path.{_≡_, refl, sym, _∙_, ap, subst}
 use mathlib.Core.Logic.{_⊎_, inl, inr}
 use mathlib.Core.Bool.{Bool, true, false, _||_, true≢false, or-false, or-assoc}
-use Prim.Native.Nat.{ℕ, _≤_, _<_}
+use Prim.Native.Nat.{ℕ, _+_, _≤_, _<_}
 use mathlib.Core.List.{List, [], _∷_, List·Memᴰ, List·Memᴰ·head, List·Memᴰ·tail, List·Memᴰ·not-nil, List·Memᴰ·cases-cons}
 use native.Mathlib.Omega.{arith}
+use lib.ListN.{getD}
 use lib.Dec.{ltb}
-use borrow.Author.Tests.{ltb-true, ltb-false}
+use borrow.Author.Tests.{eq-eqb, ne-eqb, ltb-true, ltb-false}
 use Rattle.plan.specs.declared.read.BeltId.{BeltId}
-use Rattle.plan.specs.Lists.{any, mem}
+use Rattle.plan.specs.Lists.{any}
 use Rattle.plan.specs.Plan.{Belt, namesOf, beltId}
-use Rattle.plan.proofs.Lists.{test, never, neither, any-none, any-some, in-map}
+use Rattle.plan.proofs.Lists.{test, never, neither, or-is, each, any-none, any-some, in-map}
 use Rattle.plan.proofs.Rising.{Rises, more}
 use Rattle.route.specs.declared.relax.Way.{Way}
 use Rattle.route.specs.Routes.{costLimit}
 use Rattle.route.specs.Subproblems.{Subproblem}
-use Rattle.route.specs.Inner.{wayOver, noWay, preferred, wayBy}
+use Rattle.route.specs.Inner.{must, orShut, onBy, wayOver, price, noWay, preferred, wayBy}
 
-abbrev pub price : Subproblem → List ℕ → ℕ → Belt → ℕ
-price x costs limit e = wayOver costs limit (mem (e .name) (x .forbidden)) e
+-- ---- what the way on by a belt costs
 
-abbrev pub must : Subproblem → Belt → Bool
-must x e = mem (e .name) (x .required)
+-- where there is no way on after it, and where there is one
+pub by-none : (e : Belt) (c : ℕ) → c ≡ costLimit → onBy e c ≡ costLimit
+by-none e c h = ap (λ (t : Bool). orShut t (e .cost + c)) (eq-eqb c costLimit h)
+
+pub by-some : (e : Belt) (c : ℕ) → (c ≡ costLimit → ⊥) → onBy e c ≡ e .cost + c
+by-some e c h = ap (λ (t : Bool). orShut t (e .cost + c)) (ne-eqb c costLimit h)
+
+-- by a belt that is not forbidden and does not lead past the limit; and by one that is, or does
+module _ (costs : List ℕ) (limit : ℕ) (forbidden : Bool) (e : Belt) where
+  pub over-open : forbidden ≡ false → ltb limit (e .leads) ≡ false → wayOver costs limit forbidden e ≡ onBy e (getD costs (e .leads) 0)
+  over-open h l =
+      ap (λ (t : Bool). orShut t (onBy e (getD costs (e .leads) 0))) (or-is forbidden (ltb limit (e .leads)) h l)
+
+  pub over-shut : (forbidden || ltb limit (e .leads)) ≡ true → wayOver costs limit forbidden e ≡ costLimit
+  over-shut h = ap (λ (t : Bool). orShut t (onBy e (getD costs (e .leads) 0))) h
 
 abbrev pub Alone : Subproblem → List Belt → Belt → Type 0
 Alone x es e = (g : Belt) → List·Memᴰ g es → must x g ≡ true → g ≡ e
 
--- ---- lists of belts
+abbrev pub Wins : Subproblem → List ℕ → ℕ → Belt → Belt → Type 0
+Wins x costs limit e f =
+    (price x costs limit e ≤ price x costs limit f) × (price x costs limit f ≡ price x costs limit e → e .name ≤ f .name)
 
--- what holds of the first and of all others holds of all
-each : (P : Belt → Type 0) (e : Belt) (es : List Belt) → P e → ((f : Belt) → List·Memᴰ f es → P f) → (f : Belt) → List·Memᴰ f (e ∷ es) → P f
-each P e es here rest f m = go (List·Memᴰ·cases-cons m)
-  where
-    go : (f ≡ e) ⊎ List·Memᴰ f es → P f
-    go (inl q) = subst P (sym q) here
-    go (inr k) = rest f k
+-- ---- lists of belts
 
 -- where names rise, the first belt has the lowest
 lowest-first : (e : Belt) (es : List Belt) → ((n : ℕ) → List·Memᴰ n (namesOf es) → e .name < n) → (f : Belt) → List·Memᴰ f es → e .name < f .name
@@ -75,9 +86,7 @@ module _ (x : Subproblem) (costs : List ℕ) (limit : ℕ) where
   pub data Looked (es : List Belt) (way : Way) : Type 0 where
     blocked : way .cost ≡ costLimit → ((f : Belt) → List·Memᴰ f es → Alone x es f → costLimit ≤ price x costs limit f) → Looked es way
     chosen : (e : Belt) → List·Memᴰ e es → Alone x es e → way .cost ≡ price x costs limit e → way .belt ≡ beltId (e .name)
-        → ((f : Belt) → List·Memᴰ f es → Alone x es f
-        → (price x costs limit e ≤ price x costs limit f) × (price x costs limit f ≡ price x costs limit e → e .name ≤ f .name))
-        → Looked es way
+        → ((f : Belt) → List·Memᴰ f es → Alone x es f → Wins x costs limit e f) → Looked es way
 
   abbrev on : Belt → ℕ
   on e = price x costs limit e
@@ -109,8 +118,7 @@ module _ (x : Subproblem) (costs : List ℕ) (limit : ℕ) where
   -- e is the first of the cheapest of es
   record First (es : List Belt) (e : Belt) : Type 0 where
     member : List·Memᴰ e es
-    least : (f : Belt) → List·Memᴰ f es → on e ≤ on f
-    early : (f : Belt) → List·Memᴰ f es → on f ≡ on e → e .name ≤ f .name
+    wins : (f : Belt) → List·Memᴰ f es → Wins x costs limit e f
 
   -- a way of cost k by belt g stays, or gives place to the first of the cheapest
   abbrev Best : ℕ → BeltId → List Belt → Way → Type 0
@@ -127,15 +135,13 @@ module _ (x : Subproblem) (costs : List ℕ) (limit : ℕ) where
       first-here : ((f : Belt) → List·Memᴰ f es → on e ≤ on f) → First (e ∷ es) e
       first-here least = record {
         member = List·Memᴰ·head refl;
-        least = each (λ (f : Belt). on e ≤ on f) e es (omega arith) least;
-        early = each (λ (f : Belt). on f ≡ on e → e .name ≤ f .name) e es (λ q. omega arith) (λ f m q. omega (arith, lowest-first e es h f m));
+        wins = each (Wins x costs limit e) (omega arith, λ q. omega arith) (λ f m. (least f m, λ q. omega (arith, lowest-first e es h f m)));
       }
 
       first-later : (d : Belt) → on d < on e → First es d → First (e ∷ es) d
       first-later d l v = record {
         member = List·Memᴰ·tail (v .member);
-        least = each (λ (f : Belt). on d ≤ on f) e es (omega arith) (v .least);
-        early = each (λ (f : Belt). on f ≡ on d → d .name ≤ f .name) e es (λ q. absurd (omega arith)) (v .early);
+        wins = each (Wins x costs limit d) (omega arith, λ q. absurd (omega arith)) (v .wins);
       }
 
       taken : on e < k → (way : Way) → Best (on e) (beltId (e .name)) es way → Best k g (e ∷ es) way
@@ -143,7 +149,7 @@ module _ (x : Subproblem) (costs : List ℕ) (limit : ℕ) where
       taken l way (inr (d, s, u, v)) = inr (d, s, omega arith, first-later d u v)
 
       passed : k ≤ on e → (way : Way) → Best k g es way → Best k g (e ∷ es) way
-      passed l way (inl (s, least)) = inl (s, each (λ (f : Belt). k ≤ on f) e es l least)
+      passed l way (inl (s, least)) = inl (s, each (λ (f : Belt). k ≤ on f) l least)
       passed l way (inr (d, s, u, v)) = inr (d, s, u, first-later d (omega arith) v)
 
       go : (less : Bool) → ltb (on e) k ≡ less → ((j : ℕ) (i : BeltId) → Best j i es (after (made j i false) es))
@@ -159,7 +165,7 @@ module _ (x : Subproblem) (costs : List ℕ) (limit : ℕ) where
       go (inr (e, s, l, v)) =
           chosen e (v .member) (λ g m q. absurd (never q (any-none (must x) es free m)))
           (ap (λ (w : Way). w .cost) s) (ap (λ (w : Way). w .belt) s)
-          (λ f m a. (v .least f m, v .early f m))
+          (λ f m a. v .wins f m)
 
   -- ---- one is required: it drops the others, and a second one drops it
 
@@ -194,7 +200,7 @@ module _ (x : Subproblem) (costs : List ℕ) (limit : ℕ) where
       go : Looked es way → Looked (e ∷ es) way
       go (blocked c shut) = blocked c (λ f m a. let (i, w) = inner f m a in shut f i w)
       go (chosen d i a c g least) =
-          chosen d (List·Memᴰ·tail i) (each (λ (f : Belt). must x f ≡ true → f ≡ d) e es (λ q. absurd (never q h)) a) c g
+          chosen d (List·Memᴰ·tail i) (each (λ (f : Belt). must x f ≡ true → f ≡ d) (λ q. absurd (never q h)) a) c g
           (λ f m v. let (j, w) = inner f m v in least f j w)
 
   looked-fixed : (k : ℕ) (g : BeltId) (es : List Belt) → Rises (namesOf es) → any (must x) es ≡ true → Looked es (after (made k g false) es)
@@ -204,13 +210,9 @@ module _ (x : Subproblem) (costs : List ℕ) (limit : ℕ) where
       here : must x e ≡ true → (way : Way) → Stays (on e) (beltId (e .name)) (any (must x) es) way → Looked (e ∷ es) way
       here w way (inl (s, free)) =
           chosen e (List·Memᴰ·head refl)
-          (each (λ (f : Belt). must x f ≡ true → f ≡ e) e es (λ q. refl) (λ f m q. absurd (never q (any-none (must x) es free m))))
+          (each (λ (f : Belt). must x f ≡ true → f ≡ e) (λ q. refl) (λ f m q. absurd (never q (any-none (must x) es free m))))
           (ap (λ (v : Way). v .cost) s) (ap (λ (v : Way). v .belt) s)
-          (λ f m a.
-          let q : e ≡ f = a e (List·Memᴰ·head refl) w in
-          let c : on e ≡ on f = ap (price x costs limit) q in
-          let n : e .name ≡ f .name = ap (λ (d : Belt). d .name) q in
-          (omega arith, λ v. omega arith))
+          (λ f m a. subst (Wins x costs limit e) (a e (List·Memᴰ·head refl) w) (omega arith, λ q. omega arith))
       here w way (inr (s, two)) =
           blocked s (λ f m a.
           let (d, i, q) = any-some (must x) es two in

@@ -4,9 +4,9 @@
 --   find-run          `find` over a run finds it; find-is, find-none: so does a number, or none, that is it
 --   find-run-split    the first of n + m numbers is the first of the first n of them, or else that of the other m (otherwise)
 --   find-cong         two tests that agree find the same
---   halves, shifted, weight, all-modes
---                     a mode counts half of what it and the lower ones make up; no bound above 2^10 cuts a power up to it, so
---                     16 bits do not cut what a mode counts; ten modes make up 1,024
+--   halves, weight, all-modes
+--                     a mode counts half of what it and the lower ones make up; 16 bits do not cut what a mode counts; ten modes make up
+--                     1,024
 --   settle-none       without modes the one setting is tested
 --   settle-both       else the settings with the highest mode off come first, then those with it on
 --   lowest-claim      THE CLAIM: `lowest` is the lowest setting that works; there is none exactly when the route is not permitted
@@ -19,15 +19,16 @@ use mathlib.Core.Option.{Option, none, some}
 use Prim.Native.Nat.{ℕ, zero, suc, _+_, _*_, _-_, _%_, _^_, _≤_, _<_}
 use mathlib.Core.List.{List, [], _∷_, _++_}
 use native.Mathlib.Omega.{arith}
-use native.Mathlib.Nat.{eq-or-lt-of-le, pow-suc, one-mul, mod-eq-of-lt, lt-of-le-of-lt}
+use native.Mathlib.Nat.{eq-or-lt-of-le, pow-suc}
 use native.Mathlib.Numerals.{sub-one}
 use lib.Pow.{pow-mono}
-use lib.Dec.{leb, lit<}
+use lib.Dec.{leb}
 use borrow.Author.Tests.{leb-true, leb-false}
 use Rattle.plan.specs.Lists.{run}
-use Rattle.plan.proofs.Lists.{test, never, run-split}
+use Rattle.plan.proofs.Lists.{test, never, untrue, run-split}
 use Rattle.route.specs.Permission.{passes, allMet, Permitted, orElse, find}
 use Rattle.route.specs.Claims.{LowestClaim}
+use Rattle.route.proofs.Bits.{shifted}
 
 -- the first, or else the second
 abbrev pub otherwise : {A : Type 0} → Option A → Option A → Option A
@@ -44,11 +45,8 @@ pub halves : (m : ℕ) → 1 ≤ m → 2 ^ (m - 1) + 2 ^ (m - 1) ≡ 2 ^ m
 halves zero h = absurd (omega arith)
 halves (suc k) h = rw (sub-one, pow-suc) (omega arith)
 
-pub shifted : (k top : ℕ) → k ≤ 10 → 2 ^ 10 < top → (1 * 2 ^ k) % top ≡ 2 ^ k
-shifted k top h l = rw one-mul (mod-eq-of-lt (lt-of-le-of-lt (pow-mono {i = k} {j = 10} h) l))
-
 pub weight : (m : ℕ) → m ≤ 10 → (1 * 2 ^ (m - 1)) % 65536 ≡ 2 ^ (m - 1)
-weight m h = shifted (m - 1) 65536 (omega arith) (lit< tt)
+weight m h = shifted (m - 1) 16 (omega arith)
 
 pub all-modes : (m : ℕ) → m ≤ 10 → 2 ^ m ≤ 1024
 all-modes m h = pow-mono {i = m} {j = 10} h
@@ -149,8 +147,4 @@ lowest-claim rules m r = ((λ σ. (to σ, from σ)), (none-to, none-from))
     none-to e w = never (w .2) (subst (First works 0 top) e is (w .0) (omega arith) (omega (arith, w .1)))
 
     none-from : (Permitted rules m r → ⊥) → find works (run 0 top) ≡ none
-    none-from h = find-none works 0 top (λ τ l u. go τ (omega (arith, u)) (test (works τ)))
-      where
-        go : (τ : ℕ) → τ < top → (works τ ≡ true) ⊎ (works τ ≡ false) → works τ ≡ false
-        go τ u (inl t) = absurd (h (τ, u, t))
-        go τ u (inr t) = t
+    none-from h = find-none works 0 top (λ τ l u. untrue (works τ) (λ t. h (τ, omega (arith, u), t)))

@@ -1,13 +1,13 @@
 -- Ways on: the relaxed route from u to t of what a subproblem leaves from u on, belt by belt.
 --
---   before-cons        which of two routes comes first does not change by a belt in front of both
---   Goes b x u e       a way on from u may begin with belt e: it is not forbidden, no other required belt leaves u, and none leaves a junction
---                      between u and where e leads
+--   Left b x t u g     belt g of the plan is required, and leaves u or a later junction before t
+--   left-between       so it is with any other bounds between which it leaves
+--   Goes b x u e       a way on from u may begin with belt e: it is not forbidden, and no other required belt leaves u or a later junction
+--                      before the one that e leads to
 --   ahead-step         a route from u is admitted by what is left from u on exactly when its first belt goes and the rest is admitted by
 --                      what is left from there on
 --   way-end, way-past  the way on from t is empty, and past t there is none
---   way-empty          an empty way on is that from t
---   way-route          a way on is a route
+--   way-route          a way on is a route; way-length: it has at most t - u belts
 --   way-next           what follows the first belt of a way on is the way on from where it leads
 --   complete-relaxed   the way on from s is the relaxed route if it has every required belt; else there is none
 --
@@ -15,86 +15,57 @@
 -- by this form, in belts instead of their names, all the rest goes. Assumes nothing.
 use mathlib.Core.Path.{_≡_, refl, sym, _∙_, ap}
 use mathlib.Core.Logic.{_↔_, _⊎_, inl, inr}
-use mathlib.Core.Bool.{Bool, true, false, _&&_, _||_}
+use mathlib.Core.Bool.{Bool, true, false, _&&_}
 use mathlib.Core.Option.{Option, none, some}
 use Prim.Native.Nat.{ℕ, _+_, _≤_, _<_}
-use mathlib.Core.List.{List, [], _∷_, List·Memᴰ, List·Memᴰ·head, List·Memᴰ·tail, List·Memᴰ·cases-cons, Memᴰ·cast}
+use mathlib.Core.List.{List, [], _∷_, List·Memᴰ, List·Memᴰ·head, List·Memᴰ·tail, Memᴰ·cast}
 use native.Mathlib.Omega.{arith}
-use native.Mathlib.Nat.{eq-or-lt-of-le}
+use lib.ListN.{length}
 use lib.Dec.{eqb, leb, ltb}
-use borrow.Author.Tests.{eqb-true, eqb-false, eq-eqb, ne-eqb, ltb-true, ltb-false, lt-ltb, le-ltb, leb-true, le-leb}
+use borrow.Author.Tests.{ne-eqb, ltb-true, ltb-false, lt-ltb, leb-true, le-leb}
 use Rattle.plan.specs.Lists.{all, keep, mem}
 use Rattle.plan.specs.Plan.{Belt, planOf, namesOf}
 use Rattle.plan.specs.Reading.{Accepted}
-use Rattle.plan.proofs.Lists.{test, both, and-is, neither, or-is, never, all-in, all-is, in-keep, keep-in, in-map, map-in, in-mem, mem-in}
+use Rattle.plan.proofs.Lists.{test, both, and-is, neither, or-is, never, untrue, each, all-in, all-is, in-keep, keep-in, in-map, map-in, in-mem, mem-in}
 use Rattle.plan.proofs.Reading.{belt-ends}
-use Rattle.route.specs.Routes.{IsRoute, cost, lower, before}
-use Rattle.route.specs.Permission.{passes}
+use Rattle.route.specs.Routes.{IsRoute, before}
+use Rattle.route.specs.Permission.{passes, orElse}
 use Rattle.route.specs.Subproblems.{Subproblem, admits, relaxed}
-use Rattle.route.specs.Inner.{ahead, wayFrom, complete}
-use Rattle.route.proofs.Order.{ends-claim}
+use Rattle.route.specs.Inner.{must, barred, isLeft, ahead, wayFrom, complete}
+use Rattle.route.proofs.ByName.{route-length}
+use Rattle.route.proofs.Order.{before-cons, ends-claim}
 use Rattle.route.proofs.Firsts.{admits-is, is-admits, relaxed-some, relaxed-none, is-relaxed, no-relaxed}
-use Rattle.route.proofs.Cut.{in-passes, route-between, on-route}
-
--- ---- a belt in front of two routes
-
--- how two numbers compare does not change by adding the same to both
-module _ (c m n : ℕ) where
-  ltb-add : ltb (c + m) (c + n) ≡ ltb m n
-  ltb-add = go (test (ltb m n))
-    where
-      go : (ltb m n ≡ true) ⊎ (ltb m n ≡ false) → ltb (c + m) (c + n) ≡ ltb m n
-      go (inl h) = lt-ltb (c + m) (c + n) (omega (arith, ltb-true m n h)) ∙ sym h
-      go (inr h) = le-ltb (c + m) (c + n) (omega (arith, ltb-false m n h)) ∙ sym h
-
-  eqb-add : eqb (c + m) (c + n) ≡ eqb m n
-  eqb-add = go (test (eqb m n))
-    where
-      go : (eqb m n ≡ true) ⊎ (eqb m n ≡ false) → eqb (c + m) (c + n) ≡ eqb m n
-      go (inl h) = eq-eqb (c + m) (c + n) (omega (arith, eqb-true m n h)) ∙ sym h
-      go (inr h) = ne-eqb (c + m) (c + n) (λ e. eqb-false m n h (omega arith)) ∙ sym h
-
-pub before-cons : (e : Belt) (q r : List Belt) → before (e ∷ q) (e ∷ r) ≡ before q r
-before-cons e q r =
-    let n = e .name in
-    let same : lower (e ∷ q) (e ∷ r) ≡ lower q r = λ i. le-ltb n n (omega arith) i || (eq-eqb n n refl i && lower q r) in
-    λ i. ltb-add (e .cost) (cost q) (cost r) i || (eqb-add (e .cost) (cost q) (cost r) i && same i)
+use Rattle.route.proofs.Cut.{in-passes, on-route, route-between, cut-claim}
 
 -- ---- what is left from u on
 
--- belt g is required, and left from u on
-record Left (b : List ℕ) (x : Subproblem) (t u : ℕ) (g : Belt) : Type 0 where
-  belt : List·Memᴰ g (planOf b .belts)
-  wanted : mem (g .name) (x .required) ≡ true
-  from : u ≤ g .leaves
-  before-t : g .leaves < t
+pub record Left (b : List ℕ) (x : Subproblem) (t u : ℕ) (g : Belt) : Type 0 where
+  pub belt : List·Memᴰ g (planOf b .belts)
+  pub wanted : must x g ≡ true
+  pub from : u ≤ g .leaves
+  pub before-t : g .leaves < t
+
+pub left-between : {b : List ℕ} {x : Subproblem} {t u : ℕ} {g : Belt} → Left b x t u g → (v w : ℕ) → v ≤ g .leaves → g .leaves < w → Left b x w v g
+left-between l v w h k = record { belt = l .belt; wanted = l .wanted; from = h; before-t = k }
 
 -- route r has the required belts that are left from u on, and no forbidden one
 record Admitted (b : List ℕ) (x : Subproblem) (t u : ℕ) (r : List Belt) : Type 0 where
   has : (g : Belt) → Left b x t u g → List·Memᴰ g r
   allowed : (e : ℕ) → List·Memᴰ e (x .forbidden) → passes r e ≡ false
 
--- a required belt is left from any junction on that lies no later than the one that it leaves
-left-from : {b : List ℕ} {x : Subproblem} {t u : ℕ} {g : Belt} → Left b x t u g → (v : ℕ) → v ≤ g .leaves → Left b x t v g
-left-from l v h = record { belt = l .belt; wanted = l .wanted; from = h; before-t = l .before-t }
-
--- the test by which `ahead` keeps a belt
-abbrev isLeft : Subproblem → ℕ → ℕ → Belt → Bool
-isLeft x t u g = mem (g .name) (x .required) && (leb u (g .leaves) && ltb (g .leaves) t)
-
 module _ {b : List ℕ} (x : Subproblem) (t u : ℕ) where
   in-ahead : (g : Belt) → Left b x t u g → List·Memᴰ (g .name) (ahead (planOf b) x t u .required)
   in-ahead g l =
       in-map (λ (e : Belt). e .name)
       (in-keep (isLeft x t u) (planOf b .belts) (l .belt)
-      (and-is (mem (g .name) (x .required)) (leb u (g .leaves) && ltb (g .leaves) t) (l .wanted)
+      (and-is (must x g) (leb u (g .leaves) && ltb (g .leaves) t) (l .wanted)
       (and-is (leb u (g .leaves)) (ltb (g .leaves) t) (le-leb u (g .leaves) (l .from)) (lt-ltb (g .leaves) t (l .before-t)))))
 
   ahead-in : (n : ℕ) → List·Memᴰ n (ahead (planOf b) x t u .required) → (g : Belt) × Left b x t u g × (n ≡ g .name)
   ahead-in n m =
       let (g, k, e) = map-in (λ (e : Belt). e .name) (keep (isLeft x t u) (planOf b .belts)) m in
       let (i, h) = keep-in (isLeft x t u) (planOf b .belts) k in
-      let (w, o) = both (mem (g .name) (x .required)) (leb u (g .leaves) && ltb (g .leaves) t) h in
+      let (w, o) = both (must x g) (leb u (g .leaves) && ltb (g .leaves) t) h in
       let (l, v) = both (leb u (g .leaves)) (ltb (g .leaves) t) o in
       (g, record { belt = i; wanted = w; from = leb-true u (g .leaves) l; before-t = ltb-true (g .leaves) t v }, e)
 
@@ -113,9 +84,8 @@ module _ {b : List ℕ} (ok : Accepted b) (x : Subproblem) (t u : ℕ) (r : List
 -- ---- the first belt and the rest
 
 pub record Goes (b : List ℕ) (x : Subproblem) (u : ℕ) (e : Belt) : Type 0 where
-  pub allowed : mem (e .name) (x .forbidden) ≡ false
-  pub own : (g : Belt) → List·Memᴰ g (planOf b .belts) → mem (g .name) (x .required) ≡ true → g .leaves ≡ u → g ≡ e
-  pub clear : (g : Belt) → List·Memᴰ g (planOf b .belts) → mem (g .name) (x .required) ≡ true → u < g .leaves → g .leaves < e .leads → ⊥
+  pub allowed : barred x e ≡ false
+  pub only : (g : Belt) → Left b x (e .leads) u g → g ≡ e
 
 module _ {b : List ℕ} (ok : Accepted b) (x : Subproblem) (t u : ℕ) (e : Belt) (r : List Belt) (h : IsRoute (planOf b) u t (e ∷ r)) where
   here : e .leaves ≡ u
@@ -133,51 +103,29 @@ module _ {b : List ℕ} (ok : Accepted b) (x : Subproblem) (t u : ℕ) (e : Belt
 
   -- a belt of the route that leaves before e leads is e; one that does not is among the rest
   low-first : (g : Belt) → List·Memᴰ g (e ∷ r) → g .leaves < e .leads → g ≡ e
-  low-first g m l = go (List·Memᴰ·cases-cons m)
-    where
-      go : (g ≡ e) ⊎ List·Memᴰ g r → g ≡ e
-      go (inl q) = q
-      go (inr k) = absurd (omega (arith, later g k))
+  low-first = each (λ (g : Belt). g .leaves < e .leads → g ≡ e) (λ l. refl) (λ g k l. absurd (omega (arith, later g k)))
 
   high-rest : (g : Belt) → List·Memᴰ g (e ∷ r) → e .leads ≤ g .leaves → List·Memᴰ g r
-  high-rest g m l = go (List·Memᴰ·cases-cons m)
-    where
-      go : (g ≡ e) ⊎ List·Memᴰ g r → List·Memᴰ g r
-      go (inl q) = let same : g .leaves ≡ e .leaves = ap (λ (f : Belt). f .leaves) q in absurd (omega (arith, up))
-      go (inr k) = k
+  high-rest = each (λ (g : Belt). e .leads ≤ g .leaves → List·Memᴰ g r) (λ l. absurd (omega (arith, up))) (λ g k l. k)
 
   admitted-goes : Admitted b x t u (e ∷ r) → Goes b x u e
-  admitted-goes a = record { allowed = allowed (test (mem (e .name) (x .forbidden))); own = own; clear = clear }
-    where
-      allowed : (mem (e .name) (x .forbidden) ≡ true) ⊎ (mem (e .name) (x .forbidden) ≡ false) → mem (e .name) (x .forbidden) ≡ false
-      allowed (inl k) = absurd (never (in-passes (e ∷ r) e (List·Memᴰ·head refl)) (a .allowed (e .name) (mem-in (x .forbidden) k)))
-      allowed (inr k) = k
-
-      on : (g : Belt) → List·Memᴰ g (planOf b .belts) → mem (g .name) (x .required) ≡ true → u ≤ g .leaves → g .leaves < e .leads → g ≡ e
-      on g m w l v = low-first g (a .has g (record { belt = m; wanted = w; from = l; before-t = omega (arith, top) })) v
-
-      own : (g : Belt) → List·Memᴰ g (planOf b .belts) → mem (g .name) (x .required) ≡ true → g .leaves ≡ u → g ≡ e
-      own g m w q = on g m w (omega arith) (omega (arith, here, up))
-
-      clear : (g : Belt) → List·Memᴰ g (planOf b .belts) → mem (g .name) (x .required) ≡ true → u < g .leaves → g .leaves < e .leads → ⊥
-      clear g m w l v =
-          let same : g .leaves ≡ e .leaves = ap (λ (f : Belt). f .leaves) (on g m w (omega arith) v) in
-          omega (arith, here)
+  admitted-goes a = record {
+    allowed = untrue (barred x e) (λ k. never (in-passes (e ∷ r) e (List·Memᴰ·head refl)) (a .allowed (e .name) (mem-in (x .forbidden) k)));
+    only = λ g l. low-first g (a .has g (left-between l u t (l .from) (omega (arith, top, l .before-t)))) (l .before-t);
+  }
 
   admitted-rest : Admitted b x t u (e ∷ r) → Admitted b x t (e .leads) r
   admitted-rest a = record {
-    has = λ g l. high-rest g (a .has g (left-from l u (omega (arith, here, up, l .from)))) (l .from);
+    has = λ g l. high-rest g (a .has g (left-between l u t (omega (arith, here, up, l .from)) (l .before-t))) (l .from);
     allowed = λ n m. neither (eqb (e .name) n) (passes r n) (a .allowed n m) .1;
   }
 
   goes-admitted : Goes b x u e → Admitted b x t (e .leads) r → Admitted b x t u (e ∷ r)
-  goes-admitted k a = record { has = λ g l. has g l (eq-or-lt-of-le (l .from)) (test (ltb (g .leaves) (e .leads))); allowed = allowed }
+  goes-admitted k a = record { has = λ g l. has g l (test (ltb (g .leaves) (e .leads))); allowed = allowed }
     where
-      has : (g : Belt) → Left b x t u g → (u ≡ g .leaves) ⊎ (u < g .leaves)
-          → (ltb (g .leaves) (e .leads) ≡ true) ⊎ (ltb (g .leaves) (e .leads) ≡ false) → List·Memᴰ g (e ∷ r)
-      has g l (inl q) v = List·Memᴰ·head (k .own g (l .belt) (l .wanted) (sym q))
-      has g l (inr q) (inl v) = absurd (k .clear g (l .belt) (l .wanted) q (ltb-true (g .leaves) (e .leads) v))
-      has g l (inr q) (inr v) = List·Memᴰ·tail (a .has g (left-from l (e .leads) (ltb-false (g .leaves) (e .leads) v)))
+      has : (g : Belt) → Left b x t u g → (ltb (g .leaves) (e .leads) ≡ true) ⊎ (ltb (g .leaves) (e .leads) ≡ false) → List·Memᴰ g (e ∷ r)
+      has g l (inl v) = List·Memᴰ·head (k .only g (left-between l u (e .leads) (l .from) (ltb-true (g .leaves) (e .leads) v)))
+      has g l (inr v) = List·Memᴰ·tail (a .has g (left-between l (e .leads) t (ltb-false (g .leaves) (e .leads) v) (l .before-t)))
 
       allowed : (n : ℕ) → List·Memᴰ n (x .forbidden) → passes (e ∷ r) n ≡ false
       allowed n m =
@@ -194,11 +142,11 @@ module _ {b : List ℕ} (ok : Accepted b) (x : Subproblem) (t s : ℕ) where
       (λ n m. let (g, l, e) = ahead-in x t s n m in ap (passes q) e ∙ k (g .name) (mem-in (x .required) (l .wanted))) f
 
   -- a required belt that is on a route from s to t is left from s on
-  on-left : (q : List Belt) → IsRoute (planOf b) s t q → (g : Belt) → List·Memᴰ g (planOf b .belts) → mem (g .name) (x .required) ≡ true
+  on-left : (q : List Belt) → IsRoute (planOf b) s t q → (g : Belt) → List·Memᴰ g (planOf b .belts) → must x g ≡ true
       → passes q (g .name) ≡ true → Left b x t s g
   on-left q h g m w k =
-      let (l, v) = route-between ok s t q h g (on-route ok s t q h g m k) in
-      record { belt = m; wanted = w; from = l; before-t = omega (arith, v, belt-ends ok g m .1) }
+      let cut = cut-claim b ok s t q h g m .0 k in
+      record { belt = m; wanted = w; from = cut .from; before-t = cut .before-t }
 
   -- so where x admits some route q, a route that what is left admits has every required belt
   left-whole : ((e : ℕ) → List·Memᴰ e (x .required) → mem e (namesOf (planOf b .belts)) ≡ true)
@@ -239,8 +187,8 @@ module _ {b : List ℕ} (ok : Accepted b) (x : Subproblem) (t : ℕ) where
   pub way-route : (u : ℕ) (r : List Belt) → wayFrom (planOf b) x t u ≡ some r → IsRoute (planOf b) u t r
   way-route u r h = relaxed-some ok u t (ahead (planOf b) x t u) r h .0
 
-  pub way-empty : (u : ℕ) → wayFrom (planOf b) x t u ≡ some [] → u ≡ t
-  way-empty u h = way-route u [] h
+  pub way-length : (u : ℕ) (r : List Belt) → wayFrom (planOf b) x t u ≡ some r → u + length r ≤ t
+  way-length u r h = route-length ok u t r (way-route u r h)
 
   pub way-next : (u : ℕ) (e : Belt) (r : List Belt) → wayFrom (planOf b) x t u ≡ some (e ∷ r)
       → List·Memᴰ e (planOf b .belts) × (e .leaves ≡ u) × (wayFrom (planOf b) x t (e .leads) ≡ some r)
@@ -255,19 +203,16 @@ module _ {b : List ℕ} (ok : Accepted b) (x : Subproblem) (t : ℕ) where
       → complete x (wayFrom (planOf b) x t s) ≡ relaxed (planOf b) s t x
   complete-relaxed s named = go (wayFrom (planOf b) x t s) refl
     where
-      given : Option (List Belt) → Bool → Option (List Belt)
-      given o has = elim has [ true ↦ o | false ↦ none ]
-
       by : (r : List Belt) → wayFrom (planOf b) x t s ≡ some r → (all (passes r) (x .required) ≡ true) ⊎ (all (passes r) (x .required) ≡ false)
           → complete x (some r) ≡ relaxed (planOf b) s t x
       by r e (inl k) =
           let (h, a, least) = relaxed-some ok s t (ahead (planOf b) x t s) r e in
           let admitted : admits x r ≡ true =
           is-admits x r (λ n m. all-in (passes r) (x .required) k m) (admits-is (ahead (planOf b) x t s) r a .1) in
-          ap (given (some r)) k ∙ sym (is-relaxed ok s t x r h admitted (λ q l c. least q l (whole-left ok x t s q c)))
+          ap (λ (has : Bool). orElse has r none) k ∙ sym (is-relaxed ok s t x r h admitted (λ q l c. least q l (whole-left ok x t s q c)))
       by r e (inr k) =
           let (h, a, least) = relaxed-some ok s t (ahead (planOf b) x t s) r e in
-          ap (given (some r)) k ∙ sym (no-relaxed ok s t x (λ q l c. never (left-whole ok x t s named q l c r a) k))
+          ap (λ (has : Bool). orElse has r none) k ∙ sym (no-relaxed ok s t x (λ q l c. never (left-whole ok x t s named q l c r a) k))
 
       go : (o : Option (List Belt)) → wayFrom (planOf b) x t s ≡ o → complete x o ≡ relaxed (planOf b) s t x
       go none e = sym (no-relaxed ok s t x (λ q h a. relaxed-none ok s t (ahead (planOf b) x t s) e q h (whole-left ok x t s q a)))

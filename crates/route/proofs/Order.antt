@@ -1,11 +1,11 @@
 -- "Comes before" is a strict total order on the routes from s to t.
 --
---   before-cases       a comes before b: it costs less, or as much and is lower at the first difference
---   not-before-cases   a does not come before b: it costs more, or as much and is not lower at the first difference
 --   before-irrefl      no list comes before itself
 --   before-asym        of two lists at most one comes before the other
 --   before-trans       what comes before one that comes before a third comes before the third
 --   not-before-trans   the same of "does not come before"
+--   before-cons        which of two lists comes first does not change by a belt in front of both
+--   no-earlier         f ∷ s does not come before e ∷ r if it costs more, or as much and f has the higher name, or f the same and r is s
 --   before-total       two routes from s to t of which neither comes before the other are equal
 --   ends-claim         there is no route from s to t where s > t, and only the empty one where s = t (EndsClaim)
 --   no-longer          no route from s to t goes on where another ends
@@ -18,6 +18,7 @@ use mathlib.Core.Bool.{Bool, true, false, _&&_, _||_, true≢false}
 use Prim.Native.Nat.{ℕ, _+_, _≤_, _<_}
 use mathlib.Core.List.{List, [], _∷_, _++_}
 use native.Mathlib.Omega.{arith}
+use native.Mathlib.Nat.{eq-or-lt-of-le}
 use lib.ListN.{length}
 use lib.Dec.{eqb, ltb}
 use borrow.Author.Tests.{eqb-true, eqb-false, eq-eqb, ne-eqb, ltb-true, ltb-false, lt-ltb, le-ltb}
@@ -54,6 +55,26 @@ module _ (m n : ℕ) (x : Bool) where
       go : n ≤ m → (eqb m n && x) ≡ false → (eqb m n ≡ true) ⊎ (eqb m n ≡ false) → (n < m) ⊎ ((m ≡ n) × (x ≡ false))
       go l k (inl e) = inr (eqb-true m n e, ap (λ (t : Bool). t && x) (sym e) ∙ k)
       go l k (inr e) = let d : m ≡ n → ⊥ = eqb-false m n e in inl (omega arith)
+
+-- where m is not below n, and the rest does not hold where they are equal
+not-first : (m n : ℕ) (x : Bool) → n ≤ m → (m ≡ n → x ≡ false) → first m n x ≡ false
+not-first m n x h rest = go (eq-or-lt-of-le h)
+  where
+    go : (n ≡ m) ⊎ (n < m) → first m n x ≡ false
+    go (inl e) = first-eq m n x (sym e) ∙ rest (sym e)
+    go (inr l) = first-gt m n x l
+
+-- adding the same to both numbers changes nothing
+first-add : (c m n : ℕ) (x : Bool) → first (c + m) (c + n) x ≡ first m n x
+first-add c m n x = go (test (ltb m n))
+  where
+    up : (n ≡ m) ⊎ (n < m) → first (c + m) (c + n) x ≡ first m n x
+    up (inl e) = first-eq (c + m) (c + n) x (omega arith) ∙ sym (first-eq m n x (sym e))
+    up (inr l) = first-gt (c + m) (c + n) x (omega arith) ∙ sym (first-gt m n x l)
+
+    go : (ltb m n ≡ true) ⊎ (ltb m n ≡ false) → first (c + m) (c + n) x ≡ first m n x
+    go (inl h) = let l : m < n = ltb-true m n h in first-lt (c + m) (c + n) x (omega arith) ∙ sym (first-lt m n x l)
+    go (inr h) = up (eq-or-lt-of-le (ltb-false m n h))
 
 -- where neither way round holds, the numbers are equal and so neither rest holds
 neither-first : (m n : ℕ) (x y : Bool) → first m n x ≡ false → first n m y ≡ false → (m ≡ n) × (x ≡ false) × (y ≡ false)
@@ -123,12 +144,6 @@ not-lower-trans (e ∷ a) (f ∷ b) (g ∷ c) h k =
 
 -- ---- comes before
 
-pub before-cases : (a b : List Belt) → before a b ≡ true → (cost a < cost b) ⊎ ((cost a ≡ cost b) × (lower a b ≡ true))
-before-cases a b h = first-true (cost a) (cost b) (lower a b) h
-
-pub not-before-cases : (a b : List Belt) → before a b ≡ false → (cost b < cost a) ⊎ ((cost a ≡ cost b) × (lower a b ≡ false))
-not-before-cases a b h = first-false (cost a) (cost b) (lower a b) h
-
 pub before-irrefl : (a : List Belt) → before a a ≡ false
 before-irrefl a = first-eq (cost a) (cost a) (lower a a) refl ∙ lower-irrefl a
 
@@ -140,6 +155,17 @@ before-trans a b c h k = first-trans (cost a) (cost b) (cost c) (lower a b) (low
 
 pub not-before-trans : (a b c : List Belt) → before a b ≡ false → before b c ≡ false → before a c ≡ false
 not-before-trans a b c h k = not-first-trans (cost a) (cost b) (cost c) (lower a b) (lower b c) (lower a c) (not-lower-trans a b c) h k
+
+pub before-cons : (e : Belt) (a b : List Belt) → before (e ∷ a) (e ∷ b) ≡ before a b
+before-cons e a b =
+    first-add (e .cost) (cost a) (cost b) (lower (e ∷ a) (e ∷ b))
+    ∙ ap (first (cost a) (cost b)) (first-eq (e .name) (e .name) (lower a b) refl)
+
+pub no-earlier : (e f : Belt) (r s : List Belt) → cost (e ∷ r) ≤ cost (f ∷ s) → (cost (f ∷ s) ≡ cost (e ∷ r) → e .name ≤ f .name)
+    → (f .name ≡ e .name → s ≡ r) → before (f ∷ s) (e ∷ r) ≡ false
+no-earlier e f r s costs names same =
+    not-first (cost (f ∷ s)) (cost (e ∷ r)) (lower (f ∷ s) (e ∷ r)) costs (λ c.
+    not-first (f .name) (e .name) (lower s r) (names c) (λ n. ap (λ (q : List Belt). lower q r) (same n) ∙ lower-irrefl r))
 
 -- ---- a belt leads higher
 

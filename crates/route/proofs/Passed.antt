@@ -10,7 +10,6 @@
 use mathlib.Core.Path.{_≡_, refl, sym, _∙_, ap, subst}
 use mathlib.Core.Logic.{_⊎_, inl, inr}
 use mathlib.Core.Bool.{true, false}
-use mathlib.Core.Option.{Option, none, some}
 use Prim.Native.Nat.{ℕ, zero, suc, _≤_, _<_}
 use mathlib.Core.List.{List, [], _∷_}
 use native.Mathlib.Omega.{arith}
@@ -18,31 +17,23 @@ use native.Mathlib.Nat.{eq-or-lt-of-le}
 use lib.ListN.{length, getD, set, replicate, length-set, length-replicate, getD-replicate}
 use lib.Seq.{getD-set-same, getD-set-other}
 use Rattle.plan.specs.declared.read.BeltId.{BeltId}
-use Rattle.plan.specs.Plan.{Belt, planOf, leaving, beltId}
+use Rattle.plan.specs.Plan.{planOf, leaving, beltId}
 use Rattle.plan.specs.Reading.{Accepted, Bytes}
 use Rattle.plan.proofs.Reading.{plan-sizes}
 use Rattle.route.specs.declared.relax.Way.{Way}
 use Rattle.route.specs.Routes.{costLimit}
 use Rattle.route.specs.Subproblems.{Subproblem}
-use Rattle.route.specs.Inner.{wayFrom, wayCost, noWay, wayBy}
-use Rattle.route.proofs.Onward.{way-end, way-past}
-use Rattle.route.proofs.Ways.{Nearest, Found, way-low, nearest-start, nearest-moved, nearest-kept, way-is}
-
--- the way on from junction j costs v
-abbrev Costs : List ℕ → Subproblem → ℕ → ℕ → ℕ → Type 0
-Costs b x t j v = j ≤ planOf b .junctions → v ≡ wayCost (wayFrom (planOf b) x t j)
-
--- the way on from junction j begins with belt v, if it begins with any
-abbrev Begins : List ℕ → Subproblem → ℕ → ℕ → BeltId → Type 0
-Begins b x t j v = (e : Belt) (r : List Belt) → wayFrom (planOf b) x t j ≡ some (e ∷ r) → v ≡ beltId (e .name)
+use Rattle.route.specs.Inner.{wayCost, noWay, wayBy, Begins}
+use Rattle.route.proofs.Onward.{way-end, way-past, way-length}
+use Rattle.route.proofs.Ways.{Costs, Found, Nearest, nearest-start, nearest-moved, nearest-kept, cost-low, way-is}
 
 pub record Passed (b : List ℕ) (x : Subproblem) (t u limit : ℕ) (costs : List ℕ) (firsts : List BeltId) : Type 0 where
   pub inside : u ≤ t
-  pub sizes : (length costs ≡ 257) × (length firsts ≡ 257)
+  sizes : (length costs ≡ 257) × (length firsts ≡ 257)
   pub low : (j : ℕ) → getD costs j 0 ≤ costLimit
   pub priced : (j : ℕ) → u ≤ j → Costs b x t j (getD costs j 0)
-  pub guides : (j : ℕ) → u ≤ j → Begins b x t j (getD firsts j (beltId 0))
-  pub nearest : Nearest b x t u limit
+  pub guides : (j : ℕ) → u ≤ j → Begins (planOf b) x t j (getD firsts j (beltId 0))
+  nearest : Nearest b x t u limit
 
 -- ---- arrays
 
@@ -67,22 +58,9 @@ set-low m (y ∷ l) zero a h all (suc j) = all (suc j)
 set-low m (y ∷ l) (suc i) a h all zero = all zero
 set-low m (y ∷ l) (suc i) a h all (suc j) = set-low m l i a h (λ k. all (suc k)) j
 
--- ---- no way on, and an empty one, have no first belt
-
-none-first : {e : Belt} {r : List Belt} → _≡_ {A = Option (List Belt)} none (some (e ∷ r)) → ⊥
-none-first h = let z : _≡_ {A = ℕ} 0 1 = cc in absurd (omega arith)
-
-empty-first : {e : Belt} {r : List Belt} → _≡_ {A = Option (List Belt)} (some []) (some (e ∷ r)) → ⊥
-empty-first h = let z : _≡_ {A = ℕ} 0 1 = cc in absurd (omega arith)
-
 -- ---- the pass
 
 module _ {b : List ℕ} (ok : Accepted b) (bytes : Bytes b) (x : Subproblem) (t : ℕ) (inside : t ≤ planOf b .junctions) where
-  -- a way on costs less than costLimit, which stands for none
-  cost-low : (u : ℕ) (o : Option (List Belt)) → wayFrom (planOf b) x t u ≡ o → wayCost o ≤ costLimit
-  cost-low u none h = omega arith
-  cost-low u (some r) h = omega (arith, way-low ok bytes x t inside u r h)
-
   -- the arrays by their size n, so that they are not written out
   start : (n : ℕ) → n ≡ 257 → Passed b x t t t (set (replicate n costLimit) t 0) (replicate n (beltId 0))
   start n size =
@@ -96,13 +74,9 @@ module _ {b : List ℕ} (ok : Accepted b) (bytes : Bytes b) (x : Subproblem) (t 
         sizes = (length-set costs t 0 ∙ long ∙ size, length-replicate n (beltId 0) ∙ size);
         low = set-low costLimit costs t 0 (omega arith) (replicate-low n costLimit);
         priced = stored-on (Costs b x t) 0 0 costs t (omega arith) (λ h. sym (ap wayCost (way-end ok x t))) beyond;
-        guides = λ j l e r h. absurd (go j e r h (eq-or-lt-of-le l));
-        nearest = nearest-start ok bytes x t inside;
+        guides = λ j l e r h. absurd (omega (arith, way-length ok x t j (e ∷ r) h));
+        nearest = nearest-start;
       }
-    where
-      go : (j : ℕ) (e : Belt) (r : List Belt) → wayFrom (planOf b) x t j ≡ some (e ∷ r) → (t ≡ j) ⊎ (t < j) → ⊥
-      go j e r h (inl q) = empty-first (sym (subst (λ (k : ℕ). wayFrom (planOf b) x t k ≡ some []) q (way-end ok x t)) ∙ h)
-      go j e r h (inr l) = none-first (sym (way-past ok x t j l) ∙ h)
 
   pub passed-start : Passed b x t t t (set (replicate 257 costLimit) t 0) (replicate 257 (beltId 0))
   passed-start = start 257 refl
@@ -121,18 +95,18 @@ module _ {b : List ℕ} (ok : Accepted b) (bytes : Bytes b) (x : Subproblem) (t 
         let room = plan-sizes ok .1 in
         let past = done .inside in
         let at : u < 257 = omega arith in
-        let cheap : way .cost ≤ costLimit = omega (arith, found .price, cost-low u _ refl) in
+        let cheap : way .cost ≤ costLimit = omega (arith, found .price, cost-low ok bytes x t inside u) in
         record {
           inside = omega arith;
           sizes = (length-set costs u (way .cost) ∙ done .sizes .0, length-set firsts u (way .belt) ∙ done .sizes .1);
           low = set-low costLimit costs u (way .cost) cheap (done .low);
           priced = stored-on (Costs b x t) 0 (way .cost) costs u (omega (arith, done .sizes .0)) (λ h. found .price) (done .priced);
-          guides = stored-on (Begins b x t) (beltId 0) (way .belt) firsts u (omega (arith, done .sizes .1)) (found .belt) (done .guides);
+          guides = stored-on (Begins (planOf b) x t) (beltId 0) (way .belt) firsts u (omega (arith, done .sizes .1)) (found .belt) (done .guides);
           nearest = near;
         }
 
     pub passed-moved : way .required ≡ true → Passed b x t u u (set costs u (way .cost)) (set firsts u (way .belt))
-    passed-moved h = stored u (nearest-moved ok bytes x t inside u (done .inside) (sym (found .cuts) ∙ h))
+    passed-moved h = stored u (nearest-moved u (done .inside) (sym (found .cuts) ∙ h))
 
     pub passed-kept : way .required ≡ false → Passed b x t u limit (set costs u (way .cost)) (set firsts u (way .belt))
-    passed-kept h = stored limit (nearest-kept ok bytes x t inside u limit (done .nearest) (sym (found .cuts) ∙ h))
+    passed-kept h = stored limit (nearest-kept u limit (done .nearest) (sym (found .cuts) ∙ h))

@@ -33,10 +33,10 @@ use Rattle.route.specs.Claims.{ReadsSolved, CheckClaim, WrittenClaim, Wr
 use Rattle.route.specs.Values.{idsOf, routeIn, bytesOf, caseOf}
 use Rattle.route.proofs.Plans.{arcs-belts, cost-weight}
 use Rattle.route.proofs.Feasible.{joint-feasible, feasible-joint}
-use Rattle.route.proofs.ByName.{named-map, names-belts, named-in, known-belts, connects-route, route-connects, route-belts, route-length, route-cost, known-route}
+use Rattle.route.proofs.ByName.{named-map, names-belts, named-in, known-belts, connects-route, route-connects, route-belts, route-few, route-cheap, ends-junctions, known-route}
 use Rattle.route.proofs.Lowest.{all-modes, lowest-claim}
 use Rattle.route.proofs.Readings.{round-trip, reading-claim}
-use Rattle.route.proofs.Checked.{Unrefused, zero-unrefused, unrefused-zero, query-accepted, ends-query, inside, ends-fine, ends-inside}
+use Rattle.route.proofs.Checked.{Unrefused, zero-unrefused, unrefused-zero, query-accepted, ends-query, inside}
 
 -- ---- line 11
 
@@ -188,10 +188,7 @@ check-claim k bytes =
 module _ {b : List ℕ} (good : Accepted b) (plan-bytes : Bytes b) (s t : ℕ) (s-low : 1 ≤ s) (t-high : t ≤ planOf b .junctions)
     (way : List Belt) (is-route : IsRoute (planOf b) s t way) (σ : ℕ) (low : σ < 2 ^ planOf b .modes) where
   few : length way ≤ 255
-  few = omega (arith, route-length good s t way is-route, plan-sizes good .1)
-
-  cheap : cost way < 281474976710656
-  cheap = omega (arith, route-cost good plan-bytes s t way is-route, few)
+  few = route-few good s t way s-low t-high is-route
 
   small : (e : ℕ) → List·Memᴰ e (namesOf way) → e < 65536
   small e m =
@@ -207,7 +204,7 @@ module _ {b : List ℕ} (good : Accepted b) (plan-bytes : Bytes b) (s t : ℕ) (
     written = refl;
     short = omega (arith, few, length-map way (λ (f : Belt). f .name));
     indices = small;
-    cost-fits = cheap;
+    cost-fits = route-cheap good plan-bytes s t way t-high is-route;
     setting-fits = tiny;
   }
 
@@ -232,7 +229,7 @@ written-claim b good bytes s t a c d e r route σ h =
 pub writer-claim : WriterClaim
 writer-claim b good bytes trip ends v known route sum least =
     let k : Case = caseOf b trip (bytesOf v) in
-    let (a, c, d, e) = ends-inside k (ends-fine k ends) in
+    let (a, c, d, e) = ends-junctions (planOf b) (trip .s) (trip .t) ends in
     let r : List Belt = routeIn b (v .route) in
     let names : namesOf r ≡ idsOf (v .route) = ap namesOf (known-route good (v .route) known) ∙ names-back b (idsOf (v .route)) in
     subst (λ (h : List ℕ). sheetRefusal (caseOf b trip h) ≡ 0) (λ i. sheetOf (names i) (sym sum i) (v .setting))

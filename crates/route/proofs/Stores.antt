@@ -1,4 +1,4 @@
--- What is stored, piece by piece, in the buffer of a sheet and in the array of a route.
+-- What is stored, piece by piece, in the buffer of a sheet.
 --
 --   stored-field        the two bytes of a field, stored one by one, are placed
 --   behind              what is placed behind what was placed is placed with it
@@ -7,23 +7,19 @@
 --   stepped             one record more behind them, and the steps of one belt more are placed
 --   headed              a record 0 of the right fields is the head
 --   written             the head and the steps behind it are the sheet, 12 * n + 12 bytes, and what is behind the sheet stays
---   packed-sets         belts stored from the front of an array of 255 are `packed`
 --
 -- Assumes nothing.
 use mathlib.Core.Path.{_≡_, refl, sym, _∙_, ap}
 use Prim.Native.Nat.{ℕ, suc, _+_, _*_, _/_, _%_, _≤_, _<_}
-use mathlib.Core.List.{List, [], _∷_, _++_, map}
+use mathlib.Core.List.{List, [], _∷_, _++_}
 use native.Mathlib.Omega.{arith}
 use native.Mathlib.Nat.{add-suc, suc-add, add-zero}
 use native.Mathlib.Numerals.{add-one}
-use lib.ListN.{length, getD, drop, set, replicate, length-append}
+use lib.ListN.{length, getD, drop, set, length-append}
 use lib.Seq.{sets, sets-eq, length-sets}
 use Rattle.plan.specs.declared.read.BeltId.{BeltId}
 use Rattle.plan.specs.Records.{fieldBytes, recordOf}
-use Rattle.plan.specs.Plan.{beltId}
-use Rattle.plan.proofs.Places.{ids-sets}
 use Rattle.route.specs.Sheets.{nextOf, headOf, stepsFrom, sheetOf}
-use Rattle.route.specs.Values.{packed}
 use Rattle.route.specs.Inner.{placed}
 use Rattle.route.proofs.Held.{firstIds, length-first, first-more}
 use Rattle.route.proofs.Readings.{length-steps, length-sheet}
@@ -113,8 +109,3 @@ written l es mid out n c σ e h p q =
           ∙ ap (λ (m : ℕ). headOf n c σ ++ stepsFrom n 1 es ++ drop m l) size
           ∙ ap (λ (m : ℕ). headOf m c σ ++ stepsFrom m 1 es ++ drop (12 * n + 12) l) (sym e),
     )
-
--- ---- the array of a route
-
-pub packed-sets : (es : List ℕ) → length es ≤ 255 → sets (replicate 255 (beltId 0)) 0 (map beltId es) ≡ packed es .belts
-packed-sets = ids-sets 255

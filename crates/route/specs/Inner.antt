@@ -9,15 +9,21 @@
 --   LowPlace q      place q has a bit in a mask
 --   withPlace m q   the mask m with place q in it
 -- The relaxed route, found from t backwards:
---   ahead p x t u   the subproblem that is left from u on: of the required belts those that leave u or a later junction before t
+--   must x e, barred x e
+--                   belt e is required, and is forbidden, by the subproblem x
+--   isLeft x t u e  belt e is required, and leaves u or a later junction before t
+--   ahead p x t u   the subproblem that is left from u on: it requires only such belts
 --   wayFrom p x t u the way on: the relaxed route from u to t of what is left from u on; wayIn b f t u: the same by bytes and masks
 --   wayCost o       the cost of a way on; costLimit, which no route costs, if there is none
 --   wayOver costs limit forbidden e
---                   the cost of the cheapest way on by belt e, where costs has those of the ways on from later junctions
+--                   the cost of the cheapest way on by belt e, where costs has those of the ways on from later junctions; price x costs limit e:
+--                   the same by the subproblem x
 --   preferred way e c required
 --                   the way on from a junction, once its belt e is looked at, by which it costs c; noWay: before the first
 --   wayBy x costs limit way es
 --                   the same once all the belts es are looked at
+--   Begins p x t u v
+--                   the way on from u begins with belt v, if it begins with any
 --   Guides b f t s firsts
 --                   from s on each way on begins with the belt that firsts has for its junction
 --   complete x o    the route o, if it has every required belt
@@ -43,7 +49,7 @@ use Rattle.route.specs.declared.sheet.Sheet.{Sheet}
 use Rattle.route.specs.declared.relax.Fixings.{Fixings}
 use Rattle.route.specs.declared.relax.Way.{Way}
 use Rattle.route.specs.Routes.{connects, cost, costLimit, beltsByName}
-use Rattle.route.specs.Permission.{passes, allMet}
+use Rattle.route.specs.Permission.{passes, allMet, orElse}
 use Rattle.route.specs.Subproblems.{Subproblem, relaxed}
 use Rattle.route.specs.Values.{idsOf, subproblemIn}
 
@@ -83,11 +89,17 @@ withPlace m Unnamed = m
 
 -- ---- the relaxed route
 
+abbrev pub must : Subproblem → Belt → Bool
+must x e = mem (e .name) (x .required)
+
+abbrev pub barred : Subproblem → Belt → Bool
+barred x e = mem (e .name) (x .forbidden)
+
+abbrev pub isLeft : Subproblem → ℕ → ℕ → Belt → Bool
+isLeft x t u e = must x e && (leb u (e .leaves) && ltb (e .leaves) t)
+
 abbrev pub ahead : Plan → Subproblem → ℕ → ℕ → Subproblem
-ahead p x t u = record {
-  required = namesOf (keep (λ (e : Belt). mem (e .name) (x .required) && (leb u (e .leaves) && ltb (e .leaves) t)) (p .belts));
-  forbidden = x .forbidden;
-}
+ahead p x t u = record { required = namesOf (keep (isLeft x t u) (p .belts)); forbidden = x .forbidden }
 
 abbrev pub wayFrom : Plan → Subproblem → ℕ → ℕ → Option (List Belt)
 wayFrom p x t u = relaxed p u t (ahead p x t u)
@@ -99,11 +111,20 @@ abbrev pub wayCost : Option (List Belt) → ℕ
 wayCost none = costLimit
 wayCost (some r) = cost r
 
+-- the cost c, or that of no way where it is shut
+abbrev pub orShut : Bool → ℕ → ℕ
+orShut true c = costLimit
+orShut false c = c
+
+-- the cost by belt e, where the way on from where it leads costs c
 abbrev pub onBy : Belt → ℕ → ℕ
-onBy e c = elim (eqb c costLimit) [ true ↦ costLimit | false ↦ e .cost + c ]
+onBy e c = orShut (eqb c costLimit) (e .cost + c)
 
 abbrev pub wayOver : List ℕ → ℕ → Bool → Belt → ℕ
-wayOver costs limit forbidden e = elim (forbidden || ltb limit (e .leads)) [ true ↦ costLimit | false ↦ onBy e (getD costs (e .leads) 0) ]
+wayOver costs limit forbidden e = orShut (forbidden || ltb limit (e .leads)) (onBy e (getD costs (e .leads) 0))
+
+abbrev pub price : Subproblem → List ℕ → ℕ → Belt → ℕ
+price x costs limit e = wayOver costs limit (barred x e) e
 
 abbrev pub noWay : Way
 noWay = record { cost = costLimit; belt = beltId 0; required = false }
@@ -123,12 +144,14 @@ preferred way e c required =
 
 abbrev pub wayBy : Subproblem → List ℕ → ℕ → Way → List Belt → Way
 wayBy x costs limit way [] = way
-wayBy x costs limit way (e ∷ es) =
-    wayBy x costs limit (preferred way (beltId (e .name)) (wayOver costs limit (mem (e .name) (x .forbidden)) e) (mem (e .name) (x .required))) es
+wayBy x costs limit way (e ∷ es) = wayBy x costs limit (preferred way (beltId (e .name)) (price x costs limit e) (must x e)) es
+
+abbrev pub Begins : Plan → Subproblem → ℕ → ℕ → BeltId → Type 0
+Begins p x t u v = (e : Belt) (r : List Belt) → wayFrom p x t u ≡ some (e ∷ r) → v ≡ beltId (e .name)
 
 abbrev pub Guides : List ℕ → Fixings → ℕ → ℕ → List BeltId → Type 0
-Guides b f t s firsts = (u : ℕ) (e : Belt) (r : List Belt) → s ≤ u → wayIn b f t u ≡ some (e ∷ r) → getD firsts u (beltId 0) ≡ beltId (e .name)
+Guides b f t s firsts = (u : ℕ) → s ≤ u → Begins (planOf b) (subproblemIn b f) t u (getD firsts u (beltId 0))
 
 abbrev pub complete : Subproblem → Option (List Belt) → Option (List Belt)
 complete x none = none
-complete x (some r) = elim (all (passes r) (x .required)) [ true ↦ some r | false ↦ none ]
+complete x (some r) = orElse (all (passes r) (x .required)) r none

@@ -9,8 +9,8 @@
 --   Distinct rs       no route stands in the list rs twice
 --   beltsByName p es  the belts of p with these names, in the names' order
 --
--- That there is none for s > t and only the empty one for s = t, that `before` is a strict total order on the routes from s to t, and that `routes` lists exactly the
--- routes, each once, are laws (Claims.antt). Assumes nothing.
+-- That there is none for s > t and only the empty one for s = t, that `before` is a strict total order on the routes from s to t, and that
+-- `routes` lists exactly the routes, each once, are laws (Claims.antt). Assumes nothing.
 use mathlib.Core.Path.{_≡_}
 use Prim.Native.Nat.{ℕ, zero, suc, _+_, _-_}
 use mathlib.Core.Bool.{Bool, true, false, not, _&&_, _||_}

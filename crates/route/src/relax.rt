@@ -156,7 +156,7 @@ fn ways_to(p: &[u8], places: &[u8; 2048], fixings: Fixings, s: usize, t: usize) 
 
 // The walk forward, from s where there is a way on. The route is the relaxed one if it has every required belt.
 fn walk(p: &[u8], places: &[u8; 2048], fixings: Fixings, ways: Ways, s: usize, t: usize) -> Relaxed
-    requires { ⌜ Accepted (now p) × (now places ≡ namedPlaces (now p)) × OfNamed (now p) (fixings .required) × (1 ≤ s) × (s ≤ planOf (now p) .junctions) × (t ≤ planOf (now p) .junctions) × (ways .cost < costLimit) × (ways .cost ≡ wayCost (wayIn (now p) fixings t s)) × Guides (now p) fixings t s (ways .firsts) ⌝ }
+    requires { ⌜ Accepted (now p) × (now places ≡ namedPlaces (now p)) × OfNamed (now p) (fixings .required) × (1 ≤ s) × (t ≤ planOf (now p) .junctions) × (ways .cost ≡ costLimit → ⊥) × (ways .cost ≡ wayCost (wayIn (now p) fixings t s)) × Guides (now p) fixings t s (ways .firsts) ⌝ }
     ensures { λ v. ⌜ v ≡ relaxedAs (complete (subproblemIn (now (p .entry)) fixings) (wayIn (now (p .entry)) fixings t s)) ⌝ }
 {
     let firsts = ways.firsts;

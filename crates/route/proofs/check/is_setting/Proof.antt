@@ -2,10 +2,10 @@
 use mathlib.Core.Path.{_∙_, ap}
 use Prim.Native.Nat.{ℕ, _^_, _≤_}
 use native.Mathlib.Omega.{arith}
-use lib.Dec.{ltb, lit<}
+use lib.Dec.{ltb}
 use borrow.Author.Needs.{needs}
 use Rattle.plan.proofs.Reading.{plan-sizes}
-use Rattle.route.proofs.Lowest.{shifted}
+use Rattle.route.proofs.Bits.{shifted}
 use Rattle.route.proofs.check.is_setting.Statement.{statement}
 use Rattle.route.proofs.check.is_setting.Tie as tie
 
@@ -19,7 +19,7 @@ returns : tie.Need-returns
 returns c =
     let start = c .before .before in
     let few : c .modes .result ≤ 10 = omega (arith, plan-sizes (start .pre) .2, c .modes .ensures) in
-    ap (ltb (start .args .setting)) (shifted (c .modes .result) 18446744073709551616 few (lit< tt) ∙ ap (λ (n : ℕ). 2 ^ n) (c .modes .ensures))
+    ap (ltb (start .args .setting)) (shifted (c .modes .result) 64 (omega (arith, few)) ∙ ap (λ (n : ℕ). 2 ^ n) (c .modes .ensures))
 
 pub is-setting-spec : {M : Type 1} → statement M
 is-setting-spec = tie.close (tie.spec modes-requires shl-result returns)

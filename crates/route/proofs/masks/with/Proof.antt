@@ -3,7 +3,7 @@ use mathlib.Core.Path.{subst, sym, ap, _∙_}
 use borrow.Author.Needs.{needs}
 use lib.Bits.{bitOr}
 use Rattle.route.specs.Inner.{LowPlace, withPlace}
-use Rattle.route.proofs.Fixed.{shifted}
+use Rattle.route.proofs.Bits.{shifted}
 use Rattle.route.proofs.masks.with.Statement.{statement}
 use Rattle.route.proofs.masks.with.Tie as tie
 
@@ -19,7 +19,7 @@ enum-told c = search needs
 returns : tie.Need-returns
 returns c =
     let mask = c .before .before .before .args .mask in
-    ap (bitOr mask) (shifted (c .before .place .given .0 .0) (shl-result c)) ∙ sym (ap (withPlace mask) (c .before .place .given .1))
+    ap (bitOr mask) (shifted (c .before .place .given .0 .0) 64 (shl-result c)) ∙ sym (ap (withPlace mask) (c .before .place .given .1))
 
 returns-2 : tie.Need-returns-2
 returns-2 c = search needs

@@ -10,12 +10,11 @@ use borrow.Author.Needs.{needs}
 use lib.ListN.{getD, set}
 use Rattle.plan.specs.declared.read.BeltId.{BeltId}
 use Rattle.plan.specs.declared.named.Place.{Place}
-use Rattle.plan.specs.Plan.{planOf, named, beltId, placeIn}
-use Rattle.plan.proofs.Places.{place-is}
+use Rattle.plan.specs.Plan.{planOf, named, beltId, placeOf}
 use Rattle.plan.proofs.Reading.{plan-sizes, belt-low}
-use Rattle.route.specs.Values.{inMask, namedPlaces, relaxedAs}
+use Rattle.route.specs.Values.{inMask, relaxedAs}
 use Rattle.route.specs.Inner.{LowPlace}
-use Rattle.route.proofs.Fixed.{place-low, joining}
+use Rattle.route.proofs.Fixed.{place-low, looked-up, joining}
 use Rattle.route.proofs.Walked.{gathering, Walked, Step, walked-start, walked-next, walked-whole, walked-short}
 use Rattle.route.proofs.relax.walk.Statement.{statement}
 use Rattle.route.proofs.relax.walk.Tie as tie
@@ -27,7 +26,7 @@ abbrev μ-loop : tie.MeasureT-loop
 μ-loop p places fixings ways s t firsts belts₀ count₀ met₀ at₀ belts count met at = t - at
 
 loop-holds : tie.Need-loop-holds Inv-loop μ-loop
-loop-holds c = let pre = c .before .before .pre in walked-start (pre .0) (pre .3) (pre .5) (pre .7) (pre .6)
+loop-holds c = let pre = c .before .before .pre in walked-start (pre .0) (pre .3) (pre .4) (pre .6) (pre .5)
 
 -- a turn of the loop: where the walk was asked for, and the belt that it goes by
 abbrev start : tie.In-loop Inv-loop μ-loop → tie.Start Inv-loop μ-loop
@@ -43,10 +42,10 @@ step : (c : tie.In-loop Inv-loop μ-loop)
     → Step (plan c) (start c .args .fixings) (start c .args .s) (start c .args .t) (c .before .loop .at) (c .before .loop .count) (c .before .loop .belts) (c .before .loop .met) (belt c)
 step c =
     let pre = start c .pre in
-    walked-next (pre .0) (c .before .loop .inv) (start c .args .ways .firsts) (pre .8) (c .loop-test .taken)
+    walked-next (pre .0) (c .before .loop .inv) (start c .args .ways .firsts) (pre .7) (c .loop-test .taken)
 
 below : (c : tie.In-loop Inv-loop μ-loop) → c .before .loop .at < 257
-below c = let pre = start c .pre in omega (arith, step c .higher, step c .inside, pre .5, plan-sizes (pre .0) .1)
+below c = let pre = start c .pre in omega (arith, step c .higher, step c .inside, pre .4, plan-sizes (pre .0) .1)
 
 low : (c : tie.In-loop Inv-loop μ-loop) → belt c .0 < 2048
 low c = belt-low (start c .pre .0) (belt c .0) (step c .belt) .2
@@ -61,15 +60,13 @@ place-of-requires : tie.Need-place-of-requires Inv-loop μ-loop
 place-of-requires c κs = omega (arith, low (c .before .before), c .place-of-arg .given .0)
 
 -- the place that is looked up
-looked-up : (c : tie.After-place-of Inv-loop μ-loop) → c .place-of .result ≡ placeIn (namedPlaces (plan (c .before .before .before))) (belt (c .before .before .before) .0)
-looked-up c =
-    let turn = c .before .before .before in
-    c .place-of .ensures ∙ ap (λ (l : List ℕ). placeIn l (belt turn .0)) (start turn .pre .1)
+there : (c : tie.After-place-of Inv-loop μ-loop) → c .place-of .result ≡ placeOf (named (planOf (plan (c .before .before .before)))) (belt (c .before .before .before) .0)
+there c = let turn = c .before .before .before in looked-up (plan turn) (belt turn .0) (start turn .pre .1) (c .place-of .ensures) (low turn)
 
 has-requires : tie.Need-has-requires Inv-loop μ-loop
 has-requires c κs =
     let turn = c .before .before .before in
-    subst LowPlace (sym (looked-up c)) (place-low (start turn .pre .0) (belt turn .0) (low turn))
+    subst LowPlace (sym (there c)) (place-low (start turn .pre .0) (belt turn .0))
 
 with-requires : tie.Need-with-requires Inv-loop μ-loop
 with-requires c κs = has-requires (c .before .before) κs
@@ -106,7 +103,7 @@ joined c =
     (λ w. w .2 ∙ w .1 .ensures ∙ ap (λ (t : Bool). joining t met q) (sym (is ∙ w .0 .taken)))
     (λ w. w .1 ∙ ap (λ (t : Bool). joining t met q) (sym (is ∙ w .0 .left)))
     (c .if1 .came)
-    ∙ ap (λ (x : Place). joining (inMask (start turn .args .fixings .required) x) met x) (looked-up (c .before .before) ∙ place-is (named (planOf (plan turn))) (belt turn .0) (low turn))
+    ∙ ap (λ (x : Place). joining (inMask (start turn .args .fixings .required) x) met x) (there (c .before .before))
 
 loop-again : tie.Need-loop-again Inv-loop μ-loop
 loop-again c =
@@ -132,7 +129,7 @@ returns-2 : tie.Need-returns-2 Inv-loop μ-loop
 returns-2 c =
     let past = c .before .before in
     let pre = past .before .before .before .before .pre in
-    walked-whole (pre .0) (past .before .loop .inv) (pre .7) (past .loop-test .left) (c .if2 .left)
+    walked-whole (pre .0) (past .before .loop .inv) (pre .6) (past .loop-test .left) (c .if2 .left)
 
 pub walk-spec : {M : Type 1} → statement M
 walk-spec =

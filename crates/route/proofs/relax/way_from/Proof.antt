@@ -10,27 +10,27 @@ use lib.ListN.{length}
 use Rattle.plan.specs.declared.read.BeltId.{BeltId}
 use Rattle.plan.specs.declared.named.Place.{Place}
 use Rattle.plan.specs.Lists.{mem}
-use Rattle.plan.specs.Plan.{planOf, beltAt, leaving, placeIn}
+use Rattle.plan.specs.Plan.{planOf, beltAt, leaving, named, placeOf}
 use Rattle.plan.specs.Reading.{Accepted, IsBelt, nextBelt, beltsFrom}
 use Rattle.plan.proofs.Reading.{leaving-from, belts-end, belts-next, first-belt-is, next-belt-is, belt-low}
 use Rattle.route.specs.declared.relax.Fixings.{Fixings}
 use Rattle.route.specs.declared.relax.Way.{Way}
-use Rattle.route.specs.Values.{inMask, subproblemIn, namedPlaces}
+use Rattle.route.specs.Values.{inMask, subproblemIn}
 use Rattle.route.specs.Inner.{LowPlace, wayOver, preferred, noWay, wayBy}
-use Rattle.route.proofs.Fixed.{place-low, place-fixed}
+use Rattle.route.proofs.Fixed.{fixed-mem, place-low, looked-up}
 use Rattle.route.proofs.relax.way_from.Statement.{statement}
 use Rattle.route.proofs.relax.way_from.Tie as tie
 
 -- one turn: the belt is looked at as the definition looks at it, its place telling whether it is forbidden and whether it is required
 turn : {b : List ℕ} → Accepted b → (f : Fixings) (costs : List ℕ) (limit : ℕ) (way : Way) (e : BeltId) → IsBelt b (e .0)
-    → {q : Place} → q ≡ placeIn (namedPlaces b) (e .0) → {out need : Bool} {over : ℕ}
+    → {q : Place} → q ≡ placeOf (named (planOf b)) (e .0) → {out need : Bool} {over : ℕ}
     → out ≡ inMask (f .forbidden) q → need ≡ inMask (f .required) q → over ≡ wayOver costs limit out (beltAt b (e .0))
     → wayBy (subproblemIn b f) costs limit (preferred way e over need) (beltsFrom b (nextBelt b (e .0))) ≡ wayBy (subproblemIn b f) costs limit way (beltsFrom b (e .0))
 turn {b} ok f costs limit way e is there {out} {need} ho hn hc =
     let x = subproblemIn b f in
-    let low = belt-low ok (e .0) is .2 in
-    let forbidden : out ≡ mem (e .0) (x .forbidden) = ho ∙ ap (inMask (f .forbidden)) there ∙ place-fixed ok (f .forbidden) (e .0) low in
-    let required : need ≡ mem (e .0) (x .required) = hn ∙ ap (inMask (f .required)) there ∙ place-fixed ok (f .required) (e .0) low in
+    let ns = named (planOf b) in
+    let forbidden : out ≡ mem (e .0) (x .forbidden) = ho ∙ ap (inMask (f .forbidden)) there ∙ sym (fixed-mem ns (f .forbidden) (e .0)) in
+    let required : need ≡ mem (e .0) (x .required) = hn ∙ ap (inMask (f .required)) there ∙ sym (fixed-mem ns (f .required) (e .0)) in
     let price = hc ∙ ap (λ (t : Bool). wayOver costs limit t (beltAt b (e .0))) forbidden in
     (λ i. wayBy x costs limit (preferred way e (price i) (required i)) (beltsFrom b (nextBelt b (e .0))))
     ∙ sym (ap (wayBy x costs limit way) (belts-next ok (e .0) is))
@@ -71,16 +71,16 @@ place-of-requires c κs = omega (arith, c .place-of-arg .given .0, low (c .befor
 
 -- what was looked up is its place
 there : (c : tie.After-place-of Inv-loop μ-loop)
-    → c .place-of .result ≡ placeIn (namedPlaces (c .before .before .before .before .before .before .before .args .p .now)) (c .before .before .before .before .loop .belt .0)
+    → c .place-of .result ≡ placeOf (named (planOf (c .before .before .before .before .before .before .before .args .p .now))) (c .before .before .before .before .loop .belt .0)
 there c =
     let at = c .before .before .before .before in
-    c .place-of .ensures ∙ ap (λ (l : List ℕ). placeIn l (at .loop .belt .0)) (at .before .before .before .pre .1)
+    looked-up (at .before .before .before .args .p .now) (at .loop .belt .0) (at .before .before .before .pre .1) (c .place-of .ensures) (low (c .before .before))
 
 -- and has a bit in a mask
 low-place : (c : tie.After-place-of Inv-loop μ-loop) → LowPlace (c .place-of .result)
 low-place c =
     let at = c .before .before .before .before in
-    subst LowPlace (sym (there c)) (place-low (at .before .before .before .pre .0) (at .loop .belt .0) (low (c .before .before)))
+    subst LowPlace (sym (there c)) (place-low (at .before .before .before .pre .0) (at .loop .belt .0))
 
 has-requires : tie.Need-has-requires Inv-loop μ-loop
 has-requires c κs = low-place c

@@ -1,26 +1,16 @@
 -- `route::relax::way_over` meets its contract: each answer by the tests that led there. Assumes nothing.
-use mathlib.Core.Path.{_≡_, sym, _∙_, ap}
+use mathlib.Core.Path.{sym, _∙_, ap}
 use mathlib.Core.Logic.{⊎-elim}
-use mathlib.Core.Bool.{Bool, true, false}
 use Prim.Native.Nat.{ℕ, _+_, _<_}
 use native.Mathlib.Omega.{arith}
 use lib.ListN.{getD}
 use lib.Dec.{ltb}
 use borrow.Author.Needs.{needs}
-use borrow.Author.Tests.{eq-eqb, ne-eqb}
-use Rattle.plan.specs.Plan.{Belt, beltAt}
+use Rattle.plan.specs.Plan.{beltAt}
 use Rattle.plan.proofs.Reading.{plan-sizes, belt-in, belt-ends}
-use Rattle.route.specs.Routes.{costLimit}
-use Rattle.route.specs.Inner.{onBy}
+use Rattle.route.proofs.Looking.{by-none, by-some}
 use Rattle.route.proofs.relax.way_over.Statement.{statement}
 use Rattle.route.proofs.relax.way_over.Tie as tie
-
--- going on by belt e from where no way leads on, and from where one does
-on-none : (e : Belt) (v : ℕ) → v ≡ costLimit → costLimit ≡ onBy e v
-on-none e v h = sym (ap (λ (t : Bool). elim t [ true ↦ costLimit | false ↦ e .cost + v ]) (eq-eqb v costLimit h))
-
-on-some : (e : Belt) (v : ℕ) → (v ≡ costLimit → ⊥) → e .cost + v ≡ onBy e v
-on-some e v d = sym (ap (λ (t : Bool). elim t [ true ↦ costLimit | false ↦ e .cost + v ]) (ne-eqb v costLimit d))
 
 leads-to-requires : tie.Need-leads-to-requires
 leads-to-requires c κs = search needs
@@ -54,7 +44,7 @@ returns-2 c =
     let start = past .before .before .before .before in
     let to = sym (past .before .before .leads-to .ensures) in
     let none = ap (λ (j : ℕ). getD (start .args .costs .now) j 0) to ∙ c .if3 .taken in
-    simp (past .before .if1 .left, ap (ltb (start .args .limit)) to ∙ past .if2 .left) (on-none (beltAt (start .args .p .now) (start .args .belt .0)) _ none)
+    simp (past .before .if1 .left, ap (ltb (start .args .limit)) to ∙ past .if2 .left) (sym (by-none (beltAt (start .args .p .now) (start .args .belt .0)) _ none))
 
 cost-requires : tie.Need-cost-requires
 cost-requires c κs = search needs
@@ -71,7 +61,7 @@ returns-3 c =
     let e = beltAt (start .args .p .now) (start .args .belt .0) in
     let to = past .before .before .leads-to .ensures in
     let on = ap (λ (j : ℕ). getD (start .args .costs .now) j 0) to in
-    let sum = (λ i. c .cost .ensures .0 i + on i) ∙ on-some e _ (λ z. c .before .if3 .left (on ∙ z)) in
+    let sum = (λ i. c .cost .ensures .0 i + on i) ∙ sym (by-some e _ (λ z. c .before .if3 .left (on ∙ z))) in
     simp (past .before .if1 .left, ap (ltb (start .args .limit)) (sym to) ∙ past .if2 .left) sum
 
 pub way-over-spec : {M : Type 1} → statement M

@@ -98,7 +98,7 @@ returns c =
     let start = c .before .before .before in
     let done = c .before .loop .inv in
     let end = c .loop-test .left in
-    (done .priced (start .args .s) end (start .pre .3), λ u e r l h. done .guides u (omega arith) e r h)
+    (done .priced (start .args .s) end (start .pre .3), λ u l. done .guides u (omega arith))
 
 pub ways-to-spec : {M : Type 1} → statement M
 ways-to-spec =
