@@ -77,9 +77,9 @@ cut-claim b ok s t r h g m = (to, from)
     to k =
         let i : List·Memᴰ g r = on-route ok s t r h g m k in
         let (l, u) = route-between ok s t r h g i in
-        record { from = l; before-t = omega (arith, belt-ends ok g m .1, u); alone = λ e j c. alone ok s t r h g e i j c }
+        record { from = l; before-t = omega (arith, belt-ends ok g m .1, u); cut = λ e j c. alone ok s t r h g e i j c }
 
     from : Restricts s t g r → passes r (g .name) ≡ true
     from k =
         let (e, i, c) = crossing (planOf b) s t (g .leaves) r h (k .from) (k .before-t) in
-        in-passes r g (Memᴰ·cast (sym (k .alone e i c)) i)
+        in-passes r g (Memᴰ·cast (sym (k .cut e i c)) i)

@@ -4,9 +4,9 @@
 --                     what the way on by a belt costs, by the definitions
 --   Alone x es e      belt e stands alone: no other belt of es is required. A route has one belt that leaves a junction on its way, so that only
 --                     a belt that stands alone can be taken
---   Wins x costs limit e f
+--   Wins x costs nearest e f
 --                     the way on by belt e costs less than that by f, or as much and e has no higher name
---   Looked x costs limit es way
+--   Looked x costs nearest es way
 --                     of the belts of es that stand alone, way has the first of the cheapest (chosen), or there is no way on by any (blocked)
 --   looked            this is so once the belts es, of rising names, are looked at
 --   looked-required   and then the way is marked exactly if one of them is required
@@ -30,7 +30,7 @@ use Rattle.plan.proofs.Rising.{Rises, more}
 use Rattle.route.specs.declared.relax.Way.{Way}
 use Rattle.route.specs.Routes.{costLimit}
 use Rattle.route.specs.Subproblems.{Subproblem}
-use Rattle.route.specs.Inner.{must, orShut, onBy, wayOver, price, noWay, preferred, wayBy}
+use Rattle.route.specs.Inner.{isRequired, orShut, onBy, wayOver, costBy, noWay, preferred, wayBy}
 
 -- ---- what the way on by a belt costs
 
@@ -41,21 +41,21 @@ by-none e c h = ap (λ (t : Bool). orShut t (e .cost + c)) (eq-eqb c costLimit h
 pub by-some : (e : Belt) (c : ℕ) → (c ≡ costLimit → ⊥) → onBy e c ≡ e .cost + c
 by-some e c h = ap (λ (t : Bool). orShut t (e .cost + c)) (ne-eqb c costLimit h)
 
--- by a belt that is not forbidden and does not lead past the limit; and by one that is, or does
-module _ (costs : List ℕ) (limit : ℕ) (forbidden : Bool) (e : Belt) where
-  pub over-open : forbidden ≡ false → ltb limit (e .leads) ≡ false → wayOver costs limit forbidden e ≡ onBy e (getD costs (e .leads) 0)
+-- by a belt that is not forbidden and does not lead past the junction nearest; and by one that is, or does
+module _ (costs : List ℕ) (nearest : ℕ) (forbidden : Bool) (e : Belt) where
+  pub over-open : forbidden ≡ false → ltb nearest (e .leads) ≡ false → wayOver costs nearest forbidden e ≡ onBy e (getD costs (e .leads) 0)
   over-open h l =
-      ap (λ (t : Bool). orShut t (onBy e (getD costs (e .leads) 0))) (or-is forbidden (ltb limit (e .leads)) h l)
+      ap (λ (t : Bool). orShut t (onBy e (getD costs (e .leads) 0))) (or-is forbidden (ltb nearest (e .leads)) h l)
 
-  pub over-shut : (forbidden || ltb limit (e .leads)) ≡ true → wayOver costs limit forbidden e ≡ costLimit
+  pub over-shut : (forbidden || ltb nearest (e .leads)) ≡ true → wayOver costs nearest forbidden e ≡ costLimit
   over-shut h = ap (λ (t : Bool). orShut t (onBy e (getD costs (e .leads) 0))) h
 
 abbrev pub Alone : Subproblem → List Belt → Belt → Type 0
-Alone x es e = (g : Belt) → List·Memᴰ g es → must x g ≡ true → g ≡ e
+Alone x es e = (g : Belt) → List·Memᴰ g es → isRequired x g ≡ true → g ≡ e
 
 abbrev pub Wins : Subproblem → List ℕ → ℕ → Belt → Belt → Type 0
-Wins x costs limit e f =
-    (price x costs limit e ≤ price x costs limit f) × (price x costs limit f ≡ price x costs limit e → e .name ≤ f .name)
+Wins x costs nearest e f =
+    (costBy x costs nearest e ≤ costBy x costs nearest f) × (costBy x costs nearest f ≡ costBy x costs nearest e → e .name ≤ f .name)
 
 -- ---- lists of belts
 
@@ -82,14 +82,14 @@ preferred-required k g false e c true = refl
 preferred-required k g true e c false = refl
 preferred-required k g false e c false = cheaper-required (ltb c k) c e k g
 
-module _ (x : Subproblem) (costs : List ℕ) (limit : ℕ) where
+module _ (x : Subproblem) (costs : List ℕ) (nearest : ℕ) where
   pub data Looked (es : List Belt) (way : Way) : Type 0 where
-    blocked : way .cost ≡ costLimit → ((f : Belt) → List·Memᴰ f es → Alone x es f → costLimit ≤ price x costs limit f) → Looked es way
-    chosen : (e : Belt) → List·Memᴰ e es → Alone x es e → way .cost ≡ price x costs limit e → way .belt ≡ beltId (e .name)
-        → ((f : Belt) → List·Memᴰ f es → Alone x es f → Wins x costs limit e f) → Looked es way
+    blocked : way .cost ≡ costLimit → ((f : Belt) → List·Memᴰ f es → Alone x es f → costLimit ≤ costBy x costs nearest f) → Looked es way
+    chosen : (e : Belt) → List·Memᴰ e es → Alone x es e → way .cost ≡ costBy x costs nearest e → way .belt ≡ beltId (e .name)
+        → ((f : Belt) → List·Memᴰ f es → Alone x es f → Wins x costs nearest e f) → Looked es way
 
   abbrev on : Belt → ℕ
-  on e = price x costs limit e
+  on e = costBy x costs nearest e
 
   -- the way by belt e
   abbrev by : Belt → Bool → Way
@@ -100,17 +100,17 @@ module _ (x : Subproblem) (costs : List ℕ) (limit : ℕ) where
   then way e w = preferred way (beltId (e .name)) (on e) w
 
   abbrev after : Way → List Belt → Way
-  after way es = wayBy x costs limit way es
+  after way es = wayBy x costs nearest way es
 
   -- a way is marked from the first required belt on
-  required-from : (way : Way) (es : List Belt) → after way es .required ≡ (way .required || any (must x) es)
+  required-from : (way : Way) (es : List Belt) → after way es .required ≡ (way .required || any (isRequired x) es)
   required-from way [] = sym (or-false (way .required))
   required-from way (e ∷ es) =
-      required-from (then way e (must x e)) es
-      ∙ ap (λ (w : Bool). w || any (must x) es) (preferred-required (way .cost) (way .belt) (way .required) (beltId (e .name)) (on e) (must x e))
-      ∙ or-assoc (way .required) (must x e) (any (must x) es)
+      required-from (then way e (isRequired x e)) es
+      ∙ ap (λ (w : Bool). w || any (isRequired x) es) (preferred-required (way .cost) (way .belt) (way .required) (beltId (e .name)) (on e) (isRequired x e))
+      ∙ or-assoc (way .required) (isRequired x e) (any (isRequired x) es)
 
-  pub looked-required : (es : List Belt) → wayBy x costs limit noWay es .required ≡ any (must x) es
+  pub looked-required : (es : List Belt) → wayBy x costs nearest noWay es .required ≡ any (isRequired x) es
   looked-required es = required-from noWay es
 
   -- ---- none is required: the first of the cheapest is kept
@@ -118,30 +118,30 @@ module _ (x : Subproblem) (costs : List ℕ) (limit : ℕ) where
   -- e is the first of the cheapest of es
   record First (es : List Belt) (e : Belt) : Type 0 where
     member : List·Memᴰ e es
-    wins : (f : Belt) → List·Memᴰ f es → Wins x costs limit e f
+    wins : (f : Belt) → List·Memᴰ f es → Wins x costs nearest e f
 
   -- a way of cost k by belt g stays, or gives place to the first of the cheapest
   abbrev Best : ℕ → BeltId → List Belt → Way → Type 0
   Best k g es way =
       ((way ≡ made k g false) × ((f : Belt) → List·Memᴰ f es → k ≤ on f)) ⊎ ((e : Belt) × (way ≡ by e false) × (on e < k) × First es e)
 
-  best : (k : ℕ) (g : BeltId) (es : List Belt) → Rises (namesOf es) → any (must x) es ≡ false → Best k g es (after (made k g false) es)
+  best : (k : ℕ) (g : BeltId) (es : List Belt) → Rises (namesOf es) → any (isRequired x) es ≡ false → Best k g es (after (made k g false) es)
   best k g [] r free = inl (refl, λ f m. absurd (List·Memᴰ·not-nil m))
   best k g (e ∷ es) (more h r) free =
-      let (here, rest) = neither (must x e) (any (must x) es) free in
+      let (here, rest) = neither (isRequired x e) (any (isRequired x) es) free in
       subst (λ (w : Bool). Best k g (e ∷ es) (after (then (made k g false) e w) es)) (sym here)
       (go (ltb (on e) k) refl (λ j i. best j i es r rest))
     where
       first-here : ((f : Belt) → List·Memᴰ f es → on e ≤ on f) → First (e ∷ es) e
       first-here least = record {
         member = List·Memᴰ·head refl;
-        wins = each (Wins x costs limit e) (omega arith, λ q. omega arith) (λ f m. (least f m, λ q. omega (arith, lowest-first e es h f m)));
+        wins = each (Wins x costs nearest e) (omega arith, λ q. omega arith) (λ f m. (least f m, λ q. omega (arith, lowest-first e es h f m)));
       }
 
       first-later : (d : Belt) → on d < on e → First es d → First (e ∷ es) d
       first-later d l v = record {
         member = List·Memᴰ·tail (v .member);
-        wins = each (Wins x costs limit d) (omega arith, λ q. absurd (omega arith)) (v .wins);
+        wins = each (Wins x costs nearest d) (omega arith, λ q. absurd (omega arith)) (v .wins);
       }
 
       taken : on e < k → (way : Way) → Best (on e) (beltId (e .name)) es way → Best k g (e ∷ es) way
@@ -157,13 +157,13 @@ module _ (x : Subproblem) (costs : List ℕ) (limit : ℕ) where
       go true l below = taken (ltb-true (on e) k l) (after (by e false) es) (below (on e) (beltId (e .name)))
       go false l below = passed (ltb-false (on e) k l) (after (made k g false) es) (below k g)
 
-  looked-free : (es : List Belt) → Rises (namesOf es) → any (must x) es ≡ false → Looked es (after noWay es)
+  looked-free : (es : List Belt) → Rises (namesOf es) → any (isRequired x) es ≡ false → Looked es (after noWay es)
   looked-free es r free = go (best costLimit (beltId 0) es r free)
     where
       go : Best costLimit (beltId 0) es (after noWay es) → Looked es (after noWay es)
       go (inl (s, least)) = blocked (ap (λ (w : Way). w .cost) s) (λ f m a. least f m)
       go (inr (e, s, l, v)) =
-          chosen e (v .member) (λ g m q. absurd (never q (any-none (must x) es free m)))
+          chosen e (v .member) (λ g m q. absurd (never q (any-none (isRequired x) es free m)))
           (ap (λ (w : Way). w .cost) s) (ap (λ (w : Way). w .belt) s)
           (λ f m a. v .wins f m)
 
@@ -173,67 +173,67 @@ module _ (x : Subproblem) (costs : List ℕ) (limit : ℕ) where
   abbrev Stays : ℕ → BeltId → Bool → Way → Type 0
   Stays k g second way = ((way ≡ made k g true) × (second ≡ false)) ⊎ ((way .cost ≡ costLimit) × (second ≡ true))
 
-  stays : (k : ℕ) (g : BeltId) (es : List Belt) → Stays k g (any (must x) es) (after (made k g true) es)
+  stays : (k : ℕ) (g : BeltId) (es : List Belt) → Stays k g (any (isRequired x) es) (after (made k g true) es)
   stays k g [] = inl (refl, refl)
-  stays k g (e ∷ es) = go (must x e) (stays costLimit (beltId (e .name)) es) (stays k g es)
+  stays k g (e ∷ es) = go (isRequired x e) (stays costLimit (beltId (e .name)) es) (stays k g es)
     where
       dropped : (second : Bool) (way : Way) → Stays costLimit (beltId (e .name)) second way → way .cost ≡ costLimit
       dropped second way (inl (s, q)) = ap (λ (w : Way). w .cost) s
       dropped second way (inr (s, q)) = s
 
-      go : (w : Bool) → Stays costLimit (beltId (e .name)) (any (must x) es) (after (made costLimit (beltId (e .name)) true) es)
-          → Stays k g (any (must x) es) (after (made k g true) es) → Stays k g (w || any (must x) es) (after (then (made k g true) e w) es)
-      go true rest below = inr (dropped (any (must x) es) (after (made costLimit (beltId (e .name)) true) es) rest, refl)
+      go : (w : Bool) → Stays costLimit (beltId (e .name)) (any (isRequired x) es) (after (made costLimit (beltId (e .name)) true) es)
+          → Stays k g (any (isRequired x) es) (after (made k g true) es) → Stays k g (w || any (isRequired x) es) (after (then (made k g true) e w) es)
+      go true rest below = inr (dropped (any (isRequired x) es) (after (made costLimit (beltId (e .name)) true) es) rest, refl)
       go false rest below = below
 
   -- a belt that is not required, in front of one that is, does not stand alone
-  widened : (e : Belt) (es : List Belt) → must x e ≡ false → any (must x) es ≡ true → (way : Way) → Looked es way → Looked (e ∷ es) way
+  widened : (e : Belt) (es : List Belt) → isRequired x e ≡ false → any (isRequired x) es ≡ true → (way : Way) → Looked es way → Looked (e ∷ es) way
   widened e es h some way known = go known
     where
       inner : (f : Belt) → List·Memᴰ f (e ∷ es) → Alone x (e ∷ es) f → List·Memᴰ f es × Alone x es f
       inner f m a = (later (List·Memᴰ·cases-cons m), λ g i q. a g (List·Memᴰ·tail i) q)
         where
           later : (f ≡ e) ⊎ List·Memᴰ f es → List·Memᴰ f es
-          later (inl q) = let (g, i, w) = any-some (must x) es some in absurd (never w (ap (must x) (a g (List·Memᴰ·tail i) w ∙ q) ∙ h))
+          later (inl q) = let (g, i, w) = any-some (isRequired x) es some in absurd (never w (ap (isRequired x) (a g (List·Memᴰ·tail i) w ∙ q) ∙ h))
           later (inr k) = k
 
       go : Looked es way → Looked (e ∷ es) way
       go (blocked c shut) = blocked c (λ f m a. let (i, w) = inner f m a in shut f i w)
       go (chosen d i a c g least) =
-          chosen d (List·Memᴰ·tail i) (each (λ (f : Belt). must x f ≡ true → f ≡ d) (λ q. absurd (never q h)) a) c g
+          chosen d (List·Memᴰ·tail i) (each (λ (f : Belt). isRequired x f ≡ true → f ≡ d) (λ q. absurd (never q h)) a) c g
           (λ f m v. let (j, w) = inner f m v in least f j w)
 
-  looked-fixed : (k : ℕ) (g : BeltId) (es : List Belt) → Rises (namesOf es) → any (must x) es ≡ true → Looked es (after (made k g false) es)
+  looked-fixed : (k : ℕ) (g : BeltId) (es : List Belt) → Rises (namesOf es) → any (isRequired x) es ≡ true → Looked es (after (made k g false) es)
   looked-fixed k g [] r some = absurd (true≢false (sym some))
-  looked-fixed k g (e ∷ es) (more h r) some = go (must x e) refl (λ j i. looked-fixed j i es r)
+  looked-fixed k g (e ∷ es) (more h r) some = go (isRequired x e) refl (λ j i. looked-fixed j i es r)
     where
-      here : must x e ≡ true → (way : Way) → Stays (on e) (beltId (e .name)) (any (must x) es) way → Looked (e ∷ es) way
+      here : isRequired x e ≡ true → (way : Way) → Stays (on e) (beltId (e .name)) (any (isRequired x) es) way → Looked (e ∷ es) way
       here w way (inl (s, free)) =
           chosen e (List·Memᴰ·head refl)
-          (each (λ (f : Belt). must x f ≡ true → f ≡ e) (λ q. refl) (λ f m q. absurd (never q (any-none (must x) es free m))))
+          (each (λ (f : Belt). isRequired x f ≡ true → f ≡ e) (λ q. refl) (λ f m q. absurd (never q (any-none (isRequired x) es free m))))
           (ap (λ (v : Way). v .cost) s) (ap (λ (v : Way). v .belt) s)
-          (λ f m a. subst (Wins x costs limit e) (a e (List·Memᴰ·head refl) w) (omega arith, λ q. omega arith))
+          (λ f m a. subst (Wins x costs nearest e) (a e (List·Memᴰ·head refl) w) (omega arith, λ q. omega arith))
       here w way (inr (s, two)) =
           blocked s (λ f m a.
-          let (d, i, q) = any-some (must x) es two in
+          let (d, i, q) = any-some (isRequired x) es two in
           let n : e .name ≡ d .name = ap (λ (v : Belt). v .name) (a e (List·Memᴰ·head refl) w ∙ sym (a d (List·Memᴰ·tail i) q)) in
           absurd (omega (arith, lowest-first e es h d i)))
 
-      go : (w : Bool) → must x e ≡ w → ((j : ℕ) (i : BeltId) → any (must x) es ≡ true → Looked es (after (made j i false) es))
+      go : (w : Bool) → isRequired x e ≡ w → ((j : ℕ) (i : BeltId) → any (isRequired x) es ≡ true → Looked es (after (made j i false) es))
           → Looked (e ∷ es) (after (then (made k g false) e w) es)
       go true w below = here w (after (by e true) es) (stays (on e) (beltId (e .name)) es)
       go false w below = later (ltb (on e) k)
         where
-          rest : any (must x) es ≡ true
-          rest = ap (λ (v : Bool). v || any (must x) es) (sym w) ∙ some
+          rest : any (isRequired x) es ≡ true
+          rest = ap (λ (v : Bool). v || any (isRequired x) es) (sym w) ∙ some
 
           later : (less : Bool) → Looked (e ∷ es) (after (cheaper less (on e) (beltId (e .name)) k g) es)
           later true = widened e es w rest (after (by e false) es) (below (on e) (beltId (e .name)) rest)
           later false = widened e es w rest (after (made k g false) es) (below k g rest)
 
-  pub looked : (es : List Belt) → Rises (namesOf es) → Looked es (wayBy x costs limit noWay es)
-  looked es r = go (test (any (must x) es))
+  pub looked : (es : List Belt) → Rises (namesOf es) → Looked es (wayBy x costs nearest noWay es)
+  looked es r = go (test (any (isRequired x) es))
     where
-      go : (any (must x) es ≡ true) ⊎ (any (must x) es ≡ false) → Looked es (after noWay es)
+      go : (any (isRequired x) es ≡ true) ⊎ (any (isRequired x) es ≡ false) → Looked es (after noWay es)
       go (inl h) = looked-fixed costLimit (beltId 0) es r h
       go (inr h) = looked-free es r h

@@ -1,17 +1,17 @@
--- Ways on: the relaxed route from u to t of what a subproblem leaves from u on, belt by belt.
+-- Ways on: the relaxed route from u to t of what remains of a subproblem from u on, belt by belt.
 --
---   Left b x t u g     belt g of the plan is required, and leaves u or a later junction before t
---   left-between       so it is with any other bounds between which it leaves
+--   Owed b x t u g     belt g of the plan is required, and leaves u or a later junction before t
+--   owed-between       so it is with any other bounds between which it leaves
 --   Goes b x u e       a way on from u may begin with belt e: it is not forbidden, and no other required belt leaves u or a later junction
 --                      before the one that e leads to
---   ahead-step         a route from u is admitted by what is left from u on exactly when its first belt goes and the rest is admitted by
---                      what is left from there on
+--   remaining-step     a route from u is admitted by what remains from u on exactly when its first belt goes and the rest is admitted by
+--                      what remains from there on
 --   way-end, way-past  the way on from t is empty, and past t there is none
 --   way-route          a way on is a route; way-length: it has at most t - u belts
 --   way-next           what follows the first belt of a way on is the way on from where it leads
---   complete-relaxed   the way on from s is the relaxed route if it has every required belt; else there is none
+--   having-all-relaxed the way on from s is the relaxed route if it has every required belt; else there is none
 --
--- What is left from u on admits a route from u exactly when the route has every required belt that is left and no forbidden one (Admitted);
+-- What remains from u on admits a route from u exactly when the route has every belt that is owed and no forbidden one (Admitted);
 -- by this form, in belts instead of their names, all the rest goes. Assumes nothing.
 use mathlib.Core.Path.{_≡_, refl, sym, _∙_, ap}
 use mathlib.Core.Logic.{_↔_, _⊎_, inl, inr}
@@ -31,61 +31,61 @@ use Rattle.plan.proofs.Reading.{belt-ends}
 use Rattle.route.specs.Routes.{IsRoute, before}
 use Rattle.route.specs.Permission.{passes, orElse}
 use Rattle.route.specs.Subproblems.{Subproblem, admits, relaxed}
-use Rattle.route.specs.Inner.{must, barred, isLeft, ahead, wayFrom, complete}
+use Rattle.route.specs.Inner.{isRequired, isForbidden, isOwed, remaining, wayOn, havingAll}
 use Rattle.route.proofs.ByName.{route-length}
 use Rattle.route.proofs.Order.{before-cons, ends-claim}
 use Rattle.route.proofs.Firsts.{admits-is, is-admits, relaxed-some, relaxed-none, is-relaxed, no-relaxed}
 use Rattle.route.proofs.Cut.{in-passes, on-route, route-between, cut-claim}
 
--- ---- what is left from u on
+-- ---- what remains from u on
 
-pub record Left (b : List ℕ) (x : Subproblem) (t u : ℕ) (g : Belt) : Type 0 where
+pub record Owed (b : List ℕ) (x : Subproblem) (t u : ℕ) (g : Belt) : Type 0 where
   pub belt : List·Memᴰ g (planOf b .belts)
-  pub wanted : must x g ≡ true
+  pub wanted : isRequired x g ≡ true
   pub from : u ≤ g .leaves
   pub before-t : g .leaves < t
 
-pub left-between : {b : List ℕ} {x : Subproblem} {t u : ℕ} {g : Belt} → Left b x t u g → (v w : ℕ) → v ≤ g .leaves → g .leaves < w → Left b x w v g
-left-between l v w h k = record { belt = l .belt; wanted = l .wanted; from = h; before-t = k }
+pub owed-between : {b : List ℕ} {x : Subproblem} {t u : ℕ} {g : Belt} → Owed b x t u g → (v w : ℕ) → v ≤ g .leaves → g .leaves < w → Owed b x w v g
+owed-between l v w h k = record { belt = l .belt; wanted = l .wanted; from = h; before-t = k }
 
--- route r has the required belts that are left from u on, and no forbidden one
+-- route r has the belts that are owed from u on, and no forbidden one
 record Admitted (b : List ℕ) (x : Subproblem) (t u : ℕ) (r : List Belt) : Type 0 where
-  has : (g : Belt) → Left b x t u g → List·Memᴰ g r
+  has : (g : Belt) → Owed b x t u g → List·Memᴰ g r
   allowed : (e : ℕ) → List·Memᴰ e (x .forbidden) → passes r e ≡ false
 
 module _ {b : List ℕ} (x : Subproblem) (t u : ℕ) where
-  in-ahead : (g : Belt) → Left b x t u g → List·Memᴰ (g .name) (ahead (planOf b) x t u .required)
-  in-ahead g l =
+  in-remaining : (g : Belt) → Owed b x t u g → List·Memᴰ (g .name) (remaining (planOf b) x t u .required)
+  in-remaining g l =
       in-map (λ (e : Belt). e .name)
-      (in-keep (isLeft x t u) (planOf b .belts) (l .belt)
-      (and-is (must x g) (leb u (g .leaves) && ltb (g .leaves) t) (l .wanted)
+      (in-keep (isOwed x t u) (planOf b .belts) (l .belt)
+      (and-is (isRequired x g) (leb u (g .leaves) && ltb (g .leaves) t) (l .wanted)
       (and-is (leb u (g .leaves)) (ltb (g .leaves) t) (le-leb u (g .leaves) (l .from)) (lt-ltb (g .leaves) t (l .before-t)))))
 
-  ahead-in : (n : ℕ) → List·Memᴰ n (ahead (planOf b) x t u .required) → (g : Belt) × Left b x t u g × (n ≡ g .name)
-  ahead-in n m =
-      let (g, k, e) = map-in (λ (e : Belt). e .name) (keep (isLeft x t u) (planOf b .belts)) m in
-      let (i, h) = keep-in (isLeft x t u) (planOf b .belts) k in
-      let (w, o) = both (must x g) (leb u (g .leaves) && ltb (g .leaves) t) h in
+  remaining-in : (n : ℕ) → List·Memᴰ n (remaining (planOf b) x t u .required) → (g : Belt) × Owed b x t u g × (n ≡ g .name)
+  remaining-in n m =
+      let (g, k, e) = map-in (λ (e : Belt). e .name) (keep (isOwed x t u) (planOf b .belts)) m in
+      let (i, h) = keep-in (isOwed x t u) (planOf b .belts) k in
+      let (w, o) = both (isRequired x g) (leb u (g .leaves) && ltb (g .leaves) t) h in
       let (l, v) = both (leb u (g .leaves)) (ltb (g .leaves) t) o in
       (g, record { belt = i; wanted = w; from = leb-true u (g .leaves) l; before-t = ltb-true (g .leaves) t v }, e)
 
 module _ {b : List ℕ} (ok : Accepted b) (x : Subproblem) (t u : ℕ) (r : List Belt) where
-  admits-left : IsRoute (planOf b) u t r → admits (ahead (planOf b) x t u) r ≡ true → Admitted b x t u r
-  admits-left h a =
-      let (k, f) = admits-is (ahead (planOf b) x t u) r a in
-      record { has = λ g l. on-route ok u t r h g (l .belt) (k (g .name) (in-ahead x t u g l)); allowed = f }
+  admits-owed : IsRoute (planOf b) u t r → admits (remaining (planOf b) x t u) r ≡ true → Admitted b x t u r
+  admits-owed h a =
+      let (k, f) = admits-is (remaining (planOf b) x t u) r a in
+      record { has = λ g l. on-route ok u t r h g (l .belt) (k (g .name) (in-remaining x t u g l)); allowed = f }
 
-  left-admits : Admitted b x t u r → admits (ahead (planOf b) x t u) r ≡ true
-  left-admits a = is-admits (ahead (planOf b) x t u) r has (a .allowed)
+  owed-admits : Admitted b x t u r → admits (remaining (planOf b) x t u) r ≡ true
+  owed-admits a = is-admits (remaining (planOf b) x t u) r has (a .allowed)
     where
-      has : (n : ℕ) → List·Memᴰ n (ahead (planOf b) x t u .required) → passes r n ≡ true
-      has n m = let (g, l, e) = ahead-in x t u n m in ap (passes r) e ∙ in-passes r g (a .has g l)
+      has : (n : ℕ) → List·Memᴰ n (remaining (planOf b) x t u .required) → passes r n ≡ true
+      has n m = let (g, l, e) = remaining-in x t u n m in ap (passes r) e ∙ in-passes r g (a .has g l)
 
 -- ---- the first belt and the rest
 
 pub record Goes (b : List ℕ) (x : Subproblem) (u : ℕ) (e : Belt) : Type 0 where
-  pub allowed : barred x e ≡ false
-  pub only : (g : Belt) → Left b x (e .leads) u g → g ≡ e
+  pub allowed : isForbidden x e ≡ false
+  pub only : (g : Belt) → Owed b x (e .leads) u g → g ≡ e
 
 module _ {b : List ℕ} (ok : Accepted b) (x : Subproblem) (t u : ℕ) (e : Belt) (r : List Belt) (h : IsRoute (planOf b) u t (e ∷ r)) where
   here : e .leaves ≡ u
@@ -110,110 +110,110 @@ module _ {b : List ℕ} (ok : Accepted b) (x : Subproblem) (t u : ℕ) (e : Belt
 
   admitted-goes : Admitted b x t u (e ∷ r) → Goes b x u e
   admitted-goes a = record {
-    allowed = untrue (barred x e) (λ k. never (in-passes (e ∷ r) e (List·Memᴰ·head refl)) (a .allowed (e .name) (mem-in (x .forbidden) k)));
-    only = λ g l. low-first g (a .has g (left-between l u t (l .from) (omega (arith, top, l .before-t)))) (l .before-t);
+    allowed = untrue (isForbidden x e) (λ k. never (in-passes (e ∷ r) e (List·Memᴰ·head refl)) (a .allowed (e .name) (mem-in (x .forbidden) k)));
+    only = λ g l. low-first g (a .has g (owed-between l u t (l .from) (omega (arith, top, l .before-t)))) (l .before-t);
   }
 
   admitted-rest : Admitted b x t u (e ∷ r) → Admitted b x t (e .leads) r
   admitted-rest a = record {
-    has = λ g l. high-rest g (a .has g (left-between l u t (omega (arith, here, up, l .from)) (l .before-t))) (l .from);
+    has = λ g l. high-rest g (a .has g (owed-between l u t (omega (arith, here, up, l .from)) (l .before-t))) (l .from);
     allowed = λ n m. neither (eqb (e .name) n) (passes r n) (a .allowed n m) .1;
   }
 
   goes-admitted : Goes b x u e → Admitted b x t (e .leads) r → Admitted b x t u (e ∷ r)
   goes-admitted k a = record { has = λ g l. has g l (test (ltb (g .leaves) (e .leads))); allowed = allowed }
     where
-      has : (g : Belt) → Left b x t u g → (ltb (g .leaves) (e .leads) ≡ true) ⊎ (ltb (g .leaves) (e .leads) ≡ false) → List·Memᴰ g (e ∷ r)
-      has g l (inl v) = List·Memᴰ·head (k .only g (left-between l u (e .leads) (l .from) (ltb-true (g .leaves) (e .leads) v)))
-      has g l (inr v) = List·Memᴰ·tail (a .has g (left-between l (e .leads) t (ltb-false (g .leaves) (e .leads) v) (l .before-t)))
+      has : (g : Belt) → Owed b x t u g → (ltb (g .leaves) (e .leads) ≡ true) ⊎ (ltb (g .leaves) (e .leads) ≡ false) → List·Memᴰ g (e ∷ r)
+      has g l (inl v) = List·Memᴰ·head (k .only g (owed-between l u (e .leads) (l .from) (ltb-true (g .leaves) (e .leads) v)))
+      has g l (inr v) = List·Memᴰ·tail (a .has g (owed-between l (e .leads) t (ltb-false (g .leaves) (e .leads) v) (l .before-t)))
 
       allowed : (n : ℕ) → List·Memᴰ n (x .forbidden) → passes (e ∷ r) n ≡ false
       allowed n m =
           or-is (eqb (e .name) n) (passes r n) (ne-eqb (e .name) n (λ q. never (in-mem (x .forbidden) (Memᴰ·cast q m)) (k .allowed))) (a .allowed n m)
 
--- ---- what is left and the whole
+-- ---- what remains and the whole
 
 module _ {b : List ℕ} (ok : Accepted b) (x : Subproblem) (t s : ℕ) where
-  -- what x admits, what is left of it admits
-  whole-left : (q : List Belt) → admits x q ≡ true → admits (ahead (planOf b) x t s) q ≡ true
-  whole-left q a =
+  -- what x admits, what remains of it admits
+  whole-remaining : (q : List Belt) → admits x q ≡ true → admits (remaining (planOf b) x t s) q ≡ true
+  whole-remaining q a =
       let (k, f) = admits-is x q a in
-      is-admits (ahead (planOf b) x t s) q
-      (λ n m. let (g, l, e) = ahead-in x t s n m in ap (passes q) e ∙ k (g .name) (mem-in (x .required) (l .wanted))) f
+      is-admits (remaining (planOf b) x t s) q
+      (λ n m. let (g, l, e) = remaining-in x t s n m in ap (passes q) e ∙ k (g .name) (mem-in (x .required) (l .wanted))) f
 
-  -- a required belt that is on a route from s to t is left from s on
-  on-left : (q : List Belt) → IsRoute (planOf b) s t q → (g : Belt) → List·Memᴰ g (planOf b .belts) → must x g ≡ true
-      → passes q (g .name) ≡ true → Left b x t s g
-  on-left q h g m w k =
+  -- a required belt that is on a route from s to t is owed from s on
+  on-owed : (q : List Belt) → IsRoute (planOf b) s t q → (g : Belt) → List·Memᴰ g (planOf b .belts) → isRequired x g ≡ true
+      → passes q (g .name) ≡ true → Owed b x t s g
+  on-owed q h g m w k =
       let cut = cut-claim b ok s t q h g m .0 k in
       record { belt = m; wanted = w; from = cut .from; before-t = cut .before-t }
 
-  -- so where x admits some route q, a route that what is left admits has every required belt
-  left-whole : ((e : ℕ) → List·Memᴰ e (x .required) → mem e (namesOf (planOf b .belts)) ≡ true)
+  -- so where x admits some route q, a route that what remains admits has every required belt
+  remaining-whole : ((e : ℕ) → List·Memᴰ e (x .required) → mem e (namesOf (planOf b .belts)) ≡ true)
       → (q : List Belt) → IsRoute (planOf b) s t q → admits x q ≡ true
-      → (r : List Belt) → admits (ahead (planOf b) x t s) r ≡ true → all (passes r) (x .required) ≡ true
-  left-whole named q h a r l = all-is (passes r) (x .required) has
+      → (r : List Belt) → admits (remaining (planOf b) x t s) r ≡ true → all (passes r) (x .required) ≡ true
+  remaining-whole named q h a r l = all-is (passes r) (x .required) has
     where
       has : (n : ℕ) → List·Memᴰ n (x .required) → passes r n ≡ true
       has n m =
           let (g, i, e) = map-in (λ (f : Belt). f .name) (planOf b .belts) (mem-in (namesOf (planOf b .belts)) (named n m)) in
-          let k : Left b x t s g = on-left q h g i (in-mem (x .required) (Memᴰ·cast (sym e) m)) (ap (passes q) (sym e) ∙ admits-is x q a .0 n m) in
-          ap (passes r) e ∙ admits-is (ahead (planOf b) x t s) r l .0 (g .name) (in-ahead x t s g k)
+          let k : Owed b x t s g = on-owed q h g i (in-mem (x .required) (Memᴰ·cast (sym e) m)) (ap (passes q) (sym e) ∙ admits-is x q a .0 n m) in
+          ap (passes r) e ∙ admits-is (remaining (planOf b) x t s) r l .0 (g .name) (in-remaining x t s g k)
 
 -- ---- the way on
 
 module _ {b : List ℕ} (ok : Accepted b) (x : Subproblem) (t : ℕ) where
-  pub ahead-step : (u : ℕ) (e : Belt) (r : List Belt) → IsRoute (planOf b) u t (e ∷ r)
-      → (admits (ahead (planOf b) x t u) (e ∷ r) ≡ true) ↔ (Goes b x u e × (admits (ahead (planOf b) x t (e .leads)) r ≡ true))
-  ahead-step u e r h = (onto, λ k. back (k .0) (k .1))
+  pub remaining-step : (u : ℕ) (e : Belt) (r : List Belt) → IsRoute (planOf b) u t (e ∷ r)
+      → (admits (remaining (planOf b) x t u) (e ∷ r) ≡ true) ↔ (Goes b x u e × (admits (remaining (planOf b) x t (e .leads)) r ≡ true))
+  remaining-step u e r h = (onto, λ k. back (k .0) (k .1))
     where
-      onto : admits (ahead (planOf b) x t u) (e ∷ r) ≡ true → Goes b x u e × (admits (ahead (planOf b) x t (e .leads)) r ≡ true)
+      onto : admits (remaining (planOf b) x t u) (e ∷ r) ≡ true → Goes b x u e × (admits (remaining (planOf b) x t (e .leads)) r ≡ true)
       onto a =
-          let k = admits-left ok x t u (e ∷ r) h a in
-          (admitted-goes ok x t u e r h k, left-admits ok x t (e .leads) r (admitted-rest ok x t u e r h k))
+          let k = admits-owed ok x t u (e ∷ r) h a in
+          (admitted-goes ok x t u e r h k, owed-admits ok x t (e .leads) r (admitted-rest ok x t u e r h k))
 
-      back : Goes b x u e → admits (ahead (planOf b) x t (e .leads)) r ≡ true → admits (ahead (planOf b) x t u) (e ∷ r) ≡ true
-      back g a = left-admits ok x t u (e ∷ r) (goes-admitted ok x t u e r h g (admits-left ok x t (e .leads) r (h .2) a))
+      back : Goes b x u e → admits (remaining (planOf b) x t (e .leads)) r ≡ true → admits (remaining (planOf b) x t u) (e ∷ r) ≡ true
+      back g a = owed-admits ok x t u (e ∷ r) (goes-admitted ok x t u e r h g (admits-owed ok x t (e .leads) r (h .2) a))
 
-  pub way-end : wayFrom (planOf b) x t t ≡ some []
+  pub way-end : wayOn (planOf b) x t t ≡ some []
   way-end =
-      is-relaxed ok t t (ahead (planOf b) x t t) [] refl
-      (left-admits ok x t t [] (record { has = λ g l. absurd (omega (arith, l .from, l .before-t)); allowed = λ e m. refl }))
+      is-relaxed ok t t (remaining (planOf b) x t t) [] refl
+      (owed-admits ok x t t [] (record { has = λ g l. absurd (omega (arith, l .from, l .before-t)); allowed = λ e m. refl }))
       (λ q h a. ap (λ (r : List Belt). before r []) (ends-claim b ok t t q h .1 refl))
 
-  pub way-past : (u : ℕ) → t < u → wayFrom (planOf b) x t u ≡ none
-  way-past u l = no-relaxed ok u t (ahead (planOf b) x t u) (λ q h a. omega (arith, ends-claim b ok u t q h .0))
+  pub way-past : (u : ℕ) → t < u → wayOn (planOf b) x t u ≡ none
+  way-past u l = no-relaxed ok u t (remaining (planOf b) x t u) (λ q h a. omega (arith, ends-claim b ok u t q h .0))
 
-  pub way-route : (u : ℕ) (r : List Belt) → wayFrom (planOf b) x t u ≡ some r → IsRoute (planOf b) u t r
-  way-route u r h = relaxed-some ok u t (ahead (planOf b) x t u) r h .0
+  pub way-route : (u : ℕ) (r : List Belt) → wayOn (planOf b) x t u ≡ some r → IsRoute (planOf b) u t r
+  way-route u r h = relaxed-some ok u t (remaining (planOf b) x t u) r h .0
 
-  pub way-length : (u : ℕ) (r : List Belt) → wayFrom (planOf b) x t u ≡ some r → u + length r ≤ t
+  pub way-length : (u : ℕ) (r : List Belt) → wayOn (planOf b) x t u ≡ some r → u + length r ≤ t
   way-length u r h = route-length ok u t r (way-route u r h)
 
-  pub way-next : (u : ℕ) (e : Belt) (r : List Belt) → wayFrom (planOf b) x t u ≡ some (e ∷ r)
-      → List·Memᴰ e (planOf b .belts) × (e .leaves ≡ u) × (wayFrom (planOf b) x t (e .leads) ≡ some r)
+  pub way-next : (u : ℕ) (e : Belt) (r : List Belt) → wayOn (planOf b) x t u ≡ some (e ∷ r)
+      → List·Memᴰ e (planOf b .belts) × (e .leaves ≡ u) × (wayOn (planOf b) x t (e .leads) ≡ some r)
   way-next u e r h =
-      let (k, a, least) = relaxed-some ok u t (ahead (planOf b) x t u) (e ∷ r) h in
-      let (g, rest) = ahead-step u e r k .0 a in
-      let first : (q : List Belt) → IsRoute (planOf b) (e .leads) t q → admits (ahead (planOf b) x t (e .leads)) q ≡ true → before q r ≡ false =
-      λ q l c. let w : IsRoute (planOf b) u t (e ∷ q) = (k .0, k .1, l) in sym (before-cons e q r) ∙ least (e ∷ q) w (ahead-step u e q w .1 (g, c)) in
-      (k .0, k .1, is-relaxed ok (e .leads) t (ahead (planOf b) x t (e .leads)) r (k .2) rest first)
+      let (k, a, least) = relaxed-some ok u t (remaining (planOf b) x t u) (e ∷ r) h in
+      let (g, rest) = remaining-step u e r k .0 a in
+      let first : (q : List Belt) → IsRoute (planOf b) (e .leads) t q → admits (remaining (planOf b) x t (e .leads)) q ≡ true → before q r ≡ false =
+      λ q l c. let w : IsRoute (planOf b) u t (e ∷ q) = (k .0, k .1, l) in sym (before-cons e q r) ∙ least (e ∷ q) w (remaining-step u e q w .1 (g, c)) in
+      (k .0, k .1, is-relaxed ok (e .leads) t (remaining (planOf b) x t (e .leads)) r (k .2) rest first)
 
-  pub complete-relaxed : (s : ℕ) → ((e : ℕ) → List·Memᴰ e (x .required) → mem e (namesOf (planOf b .belts)) ≡ true)
-      → complete x (wayFrom (planOf b) x t s) ≡ relaxed (planOf b) s t x
-  complete-relaxed s named = go (wayFrom (planOf b) x t s) refl
+  pub having-all-relaxed : (s : ℕ) → ((e : ℕ) → List·Memᴰ e (x .required) → mem e (namesOf (planOf b .belts)) ≡ true)
+      → havingAll x (wayOn (planOf b) x t s) ≡ relaxed (planOf b) s t x
+  having-all-relaxed s named = go (wayOn (planOf b) x t s) refl
     where
-      by : (r : List Belt) → wayFrom (planOf b) x t s ≡ some r → (all (passes r) (x .required) ≡ true) ⊎ (all (passes r) (x .required) ≡ false)
-          → complete x (some r) ≡ relaxed (planOf b) s t x
+      by : (r : List Belt) → wayOn (planOf b) x t s ≡ some r → (all (passes r) (x .required) ≡ true) ⊎ (all (passes r) (x .required) ≡ false)
+          → havingAll x (some r) ≡ relaxed (planOf b) s t x
       by r e (inl k) =
-          let (h, a, least) = relaxed-some ok s t (ahead (planOf b) x t s) r e in
+          let (h, a, least) = relaxed-some ok s t (remaining (planOf b) x t s) r e in
           let admitted : admits x r ≡ true =
-          is-admits x r (λ n m. all-in (passes r) (x .required) k m) (admits-is (ahead (planOf b) x t s) r a .1) in
-          ap (λ (has : Bool). orElse has r none) k ∙ sym (is-relaxed ok s t x r h admitted (λ q l c. least q l (whole-left ok x t s q c)))
+          is-admits x r (λ n m. all-in (passes r) (x .required) k m) (admits-is (remaining (planOf b) x t s) r a .1) in
+          ap (λ (has : Bool). orElse has r none) k ∙ sym (is-relaxed ok s t x r h admitted (λ q l c. least q l (whole-remaining ok x t s q c)))
       by r e (inr k) =
-          let (h, a, least) = relaxed-some ok s t (ahead (planOf b) x t s) r e in
-          ap (λ (has : Bool). orElse has r none) k ∙ sym (no-relaxed ok s t x (λ q l c. never (left-whole ok x t s named q l c r a) k))
+          let (h, a, least) = relaxed-some ok s t (remaining (planOf b) x t s) r e in
+          ap (λ (has : Bool). orElse has r none) k ∙ sym (no-relaxed ok s t x (λ q l c. never (remaining-whole ok x t s named q l c r a) k))
 
-      go : (o : Option (List Belt)) → wayFrom (planOf b) x t s ≡ o → complete x o ≡ relaxed (planOf b) s t x
-      go none e = sym (no-relaxed ok s t x (λ q h a. relaxed-none ok s t (ahead (planOf b) x t s) e q h (whole-left ok x t s q a)))
+      go : (o : Option (List Belt)) → wayOn (planOf b) x t s ≡ o → havingAll x o ≡ relaxed (planOf b) s t x
+      go none e = sym (no-relaxed ok s t x (λ q h a. relaxed-none ok s t (remaining (planOf b) x t s) e q h (whole-remaining ok x t s q a)))
       go (some r) e = by r e (test (all (passes r) (x .required)))

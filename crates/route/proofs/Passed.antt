@@ -1,7 +1,7 @@
 -- The pass backwards, one junction after the other: what the arrays of costs and of first belts hold once the junctions from u on are done.
 --
---   Passed b x t u limit costs firsts
---                              from u on each junction has the cost and the first belt of its way on, and limit is the nearest of them that a
+--   Passed b x t u nearest costs firsts
+--                              from u on each junction has the cost and the first belt of its way on, and nearest is the nearest of them that a
 --                              required belt leaves, or t. Past t there is nothing to do: no way leads on from there
 --   passed-start               at first only t is done
 --   passed-moved, passed-kept  one junction further back, where a required belt leaves it and where none does
@@ -27,13 +27,13 @@ use Rattle.route.specs.Inner.{wayCost, noWay, wayBy, Begins}
 use Rattle.route.proofs.Onward.{way-end, way-past, way-length}
 use Rattle.route.proofs.Ways.{Costs, Found, Nearest, nearest-start, nearest-moved, nearest-kept, cost-low, way-is}
 
-pub record Passed (b : List ℕ) (x : Subproblem) (t u limit : ℕ) (costs : List ℕ) (firsts : List BeltId) : Type 0 where
+pub record Passed (b : List ℕ) (x : Subproblem) (t u nearest : ℕ) (costs : List ℕ) (firsts : List BeltId) : Type 0 where
   pub inside : u ≤ t
   sizes : (length costs ≡ 257) × (length firsts ≡ 257)
   pub low : (j : ℕ) → getD costs j 0 ≤ costLimit
   pub priced : (j : ℕ) → u ≤ j → Costs b x t j (getD costs j 0)
   pub guides : (j : ℕ) → u ≤ j → Begins (planOf b) x t j (getD firsts j (beltId 0))
-  nearest : Nearest b x t u limit
+  near : Nearest b x t u nearest
 
 -- ---- arrays
 
@@ -75,38 +75,38 @@ module _ {b : List ℕ} (ok : Accepted b) (bytes : Bytes b) (x : Subproblem) (t 
         low = set-low costLimit costs t 0 (omega arith) (replicate-low n costLimit);
         priced = stored-on (Costs b x t) 0 0 costs t (omega arith) (λ h. sym (ap wayCost (way-end ok x t))) beyond;
         guides = λ j l e r h. absurd (omega (arith, way-length ok x t j (e ∷ r) h));
-        nearest = nearest-start;
+        near = nearest-start;
       }
 
   pub passed-start : Passed b x t t t (set (replicate 257 costLimit) t 0) (replicate 257 (beltId 0))
   passed-start = start 257 refl
 
   -- u is the junction before those that are done, and way is what its belts give
-  module _ {v u limit : ℕ} {costs : List ℕ} {firsts : List BeltId} {way : Way} (one : v ≡ suc u) (here : Passed b x t v limit costs firsts)
-      (same : way ≡ wayBy x costs limit noWay (leaving (planOf b) u)) where
-    done : Passed b x t (suc u) limit costs firsts
-    done = subst (λ (n : ℕ). Passed b x t n limit costs firsts) one here
+  module _ {v u nearest : ℕ} {costs : List ℕ} {firsts : List BeltId} {way : Way} (one : v ≡ suc u) (here : Passed b x t v nearest costs firsts)
+      (same : way ≡ wayBy x costs nearest noWay (leaving (planOf b) u)) where
+    done : Passed b x t (suc u) nearest costs firsts
+    done = subst (λ (n : ℕ). Passed b x t n nearest costs firsts) one here
 
     found : Found b x t u way
-    found = subst (Found b x t u) (sym same) (way-is ok bytes x t inside u limit costs (done .inside) (done .nearest) (done .priced))
+    found = subst (Found b x t u) (sym same) (way-is ok bytes x t inside u nearest costs (done .inside) (done .near) (done .priced))
 
     stored : (next : ℕ) → Nearest b x t u next → Passed b x t u next (set costs u (way .cost)) (set firsts u (way .belt))
     stored next near =
         let room = plan-sizes ok .1 in
         let past = done .inside in
         let at : u < 257 = omega arith in
-        let cheap : way .cost ≤ costLimit = omega (arith, found .price, cost-low ok bytes x t inside u) in
+        let cheap : way .cost ≤ costLimit = omega (arith, found .costBy, cost-low ok bytes x t inside u) in
         record {
           inside = omega arith;
           sizes = (length-set costs u (way .cost) ∙ done .sizes .0, length-set firsts u (way .belt) ∙ done .sizes .1);
           low = set-low costLimit costs u (way .cost) cheap (done .low);
-          priced = stored-on (Costs b x t) 0 (way .cost) costs u (omega (arith, done .sizes .0)) (λ h. found .price) (done .priced);
+          priced = stored-on (Costs b x t) 0 (way .cost) costs u (omega (arith, done .sizes .0)) (λ h. found .costBy) (done .priced);
           guides = stored-on (Begins (planOf b) x t) (beltId 0) (way .belt) firsts u (omega (arith, done .sizes .1)) (found .belt) (done .guides);
-          nearest = near;
+          near = near;
         }
 
     pub passed-moved : way .required ≡ true → Passed b x t u u (set costs u (way .cost)) (set firsts u (way .belt))
     passed-moved h = stored u (nearest-moved u (done .inside) (sym (found .cuts) ∙ h))
 
-    pub passed-kept : way .required ≡ false → Passed b x t u limit (set costs u (way .cost)) (set firsts u (way .belt))
-    passed-kept h = stored limit (nearest-kept u limit (done .nearest) (sym (found .cuts) ∙ h))
+    pub passed-kept : way .required ≡ false → Passed b x t u nearest (set costs u (way .cost)) (set firsts u (way .belt))
+    passed-kept h = stored nearest (nearest-kept u nearest (done .near) (sym (found .cuts) ∙ h))

@@ -120,10 +120,27 @@ P-4-without-6 : relaxed (planOf planP) 1 3 (fixing (4 ∷ []) (6 ∷ [])) ≡ no
 unfolding planP planOf relaxed
 P-4-without-6 = refl
 
--- belt 4 leaves 1, so no route from 2 has it
+-- belt 4 leaves 1, so no route from 2 has it; belt 6 leaves 2, so no route to 2 has it
 P-from-2-with-4 : relaxed (planOf planP) 2 3 (fixing (4 ∷ []) []) ≡ none
 unfolding planP planOf relaxed
 P-from-2-with-4 = refl
+
+P-to-2-with-6 : relaxed (planOf planP) 1 2 (fixing (6 ∷ []) []) ≡ none
+unfolding planP planOf relaxed
+P-to-2-with-6 = refl
+
+-- from 1 to 1 the empty route, if nothing is required; from 3 to 1 none
+P-1-1 : relaxed (planOf planP) 1 1 (fixing [] (4 ∷ [])) ≡ some []
+unfolding planP planOf relaxed
+P-1-1 = refl
+
+P-1-1-with-4 : relaxed (planOf planP) 1 1 (fixing (4 ∷ []) []) ≡ none
+unfolding planP planOf relaxed
+P-1-1-with-4 = refl
+
+P-3-1 : relaxed (planOf planP) 3 1 (fixing [] []) ≡ none
+unfolding planP planOf relaxed
+P-3-1 = refl
 
 -- P names 4 and 6, at places 0 and 1
 P-masks : subproblemIn planP (record { required = 2; forbidden = 1 }) ≡ fixing (6 ∷ []) (4 ∷ [])
@@ -151,6 +168,11 @@ twins-relaxed = refl
 twins-without-4 : relaxed planTwins 1 3 (fixing [] (4 ∷ [])) ≡ some (beltsByName planTwins (5 ∷ 7 ∷ []))
 unfolding relaxed
 twins-without-4 = refl
+
+-- two belts that leave one junction are on no route together
+twins-both : relaxed planTwins 1 3 (fixing (4 ∷ 5 ∷ []) []) ≡ none
+unfolding relaxed
+twins-both = refl
 
 -- belt 6 jumps over junction 2, which belt 7 leaves
 twins-with-7 : relaxed planTwins 1 3 (fixing (7 ∷ []) (4 ∷ 5 ∷ [])) ≡ none

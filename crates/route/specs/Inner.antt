@@ -4,29 +4,31 @@
 --   Low r           a Route of at most 255 belts with names below 2,048, so that each can be looked up
 --   Nameable l      what literal l names can be looked up: a belt below 2,048, a mode from 1 to 10
 --   contentRefusal p s t v
---                   the first broken one of lines 11 to 14, or 0, by what a sheet in the form says
+--                   the first broken one of lines 11 to 14 (sheetBy), or 0, by what a sheet in the form says
 -- Masks:
 --   LowPlace q      place q has a bit in a mask
 --   withPlace m q   the mask m with place q in it
 -- The relaxed route, found from t backwards:
---   must x e, barred x e
+--   isRequired x e, isForbidden x e
 --                   belt e is required, and is forbidden, by the subproblem x
---   isLeft x t u e  belt e is required, and leaves u or a later junction before t
---   ahead p x t u   the subproblem that is left from u on: it requires only such belts
---   wayFrom p x t u the way on: the relaxed route from u to t of what is left from u on; wayIn b f t u: the same by bytes and masks
+--   isOwed x t u e  belt e is required, and leaves u or a later junction before t
+--   remaining p x t u
+--                   the subproblem that remains from u on: it requires only such belts
+--   wayOn p x t u   the way on: the relaxed route from u to t of what remains from u on; wayIn b f t u: the same by bytes and masks
 --   wayCost o       the cost of a way on; costLimit, which no route costs, if there is none
---   wayOver costs limit forbidden e
---                   the cost of the cheapest way on by belt e, where costs has those of the ways on from later junctions; price x costs limit e:
---                   the same by the subproblem x
+--   onBy e c        the cost of the way on by belt e, where that from where it leads costs c
+--   wayOver costs nearest forbidden e
+--                   the same by an array of the costs from later junctions; a forbidden belt drops out (orShut), and one that leads past the
+--                   junction nearest. costBy x costs nearest e: the same by the subproblem x
 --   preferred way e c required
 --                   the way on from a junction, once its belt e is looked at, by which it costs c; noWay: before the first
---   wayBy x costs limit way es
+--   wayBy x costs nearest way es
 --                   the same once all the belts es are looked at
 --   Begins p x t u v
 --                   the way on from u begins with belt v, if it begins with any
 --   Guides b f t s firsts
 --                   from s on each way on begins with the belt that firsts has for its junction
---   complete x o    the route o, if it has every required belt
+--   havingAll x o   the route o, if it has every required belt
 --
 -- Assumes nothing.
 use mathlib.Core.Path.{_≡_}
@@ -89,23 +91,23 @@ withPlace m Unnamed = m
 
 -- ---- the relaxed route
 
-abbrev pub must : Subproblem → Belt → Bool
-must x e = mem (e .name) (x .required)
+abbrev pub isRequired : Subproblem → Belt → Bool
+isRequired x e = mem (e .name) (x .required)
 
-abbrev pub barred : Subproblem → Belt → Bool
-barred x e = mem (e .name) (x .forbidden)
+abbrev pub isForbidden : Subproblem → Belt → Bool
+isForbidden x e = mem (e .name) (x .forbidden)
 
-abbrev pub isLeft : Subproblem → ℕ → ℕ → Belt → Bool
-isLeft x t u e = must x e && (leb u (e .leaves) && ltb (e .leaves) t)
+abbrev pub isOwed : Subproblem → ℕ → ℕ → Belt → Bool
+isOwed x t u e = isRequired x e && (leb u (e .leaves) && ltb (e .leaves) t)
 
-abbrev pub ahead : Plan → Subproblem → ℕ → ℕ → Subproblem
-ahead p x t u = record { required = namesOf (keep (isLeft x t u) (p .belts)); forbidden = x .forbidden }
+abbrev pub remaining : Plan → Subproblem → ℕ → ℕ → Subproblem
+remaining p x t u = record { required = namesOf (keep (isOwed x t u) (p .belts)); forbidden = x .forbidden }
 
-abbrev pub wayFrom : Plan → Subproblem → ℕ → ℕ → Option (List Belt)
-wayFrom p x t u = relaxed p u t (ahead p x t u)
+abbrev pub wayOn : Plan → Subproblem → ℕ → ℕ → Option (List Belt)
+wayOn p x t u = relaxed p u t (remaining p x t u)
 
 abbrev pub wayIn : List ℕ → Fixings → ℕ → ℕ → Option (List Belt)
-wayIn b f t u = wayFrom (planOf b) (subproblemIn b f) t u
+wayIn b f t u = wayOn (planOf b) (subproblemIn b f) t u
 
 abbrev pub wayCost : Option (List Belt) → ℕ
 wayCost none = costLimit
@@ -116,15 +118,14 @@ abbrev pub orShut : Bool → ℕ → ℕ
 orShut true c = costLimit
 orShut false c = c
 
--- the cost by belt e, where the way on from where it leads costs c
 abbrev pub onBy : Belt → ℕ → ℕ
 onBy e c = orShut (eqb c costLimit) (e .cost + c)
 
 abbrev pub wayOver : List ℕ → ℕ → Bool → Belt → ℕ
-wayOver costs limit forbidden e = orShut (forbidden || ltb limit (e .leads)) (onBy e (getD costs (e .leads) 0))
+wayOver costs nearest forbidden e = orShut (forbidden || ltb nearest (e .leads)) (onBy e (getD costs (e .leads) 0))
 
-abbrev pub price : Subproblem → List ℕ → ℕ → Belt → ℕ
-price x costs limit e = wayOver costs limit (barred x e) e
+abbrev pub costBy : Subproblem → List ℕ → ℕ → Belt → ℕ
+costBy x costs nearest e = wayOver costs nearest (isForbidden x e) e
 
 abbrev pub noWay : Way
 noWay = record { cost = costLimit; belt = beltId 0; required = false }
@@ -143,15 +144,15 @@ preferred way e c required =
     ]
 
 abbrev pub wayBy : Subproblem → List ℕ → ℕ → Way → List Belt → Way
-wayBy x costs limit way [] = way
-wayBy x costs limit way (e ∷ es) = wayBy x costs limit (preferred way (beltId (e .name)) (price x costs limit e) (must x e)) es
+wayBy x costs nearest way [] = way
+wayBy x costs nearest way (e ∷ es) = wayBy x costs nearest (preferred way (beltId (e .name)) (costBy x costs nearest e) (isRequired x e)) es
 
 abbrev pub Begins : Plan → Subproblem → ℕ → ℕ → BeltId → Type 0
-Begins p x t u v = (e : Belt) (r : List Belt) → wayFrom p x t u ≡ some (e ∷ r) → v ≡ beltId (e .name)
+Begins p x t u v = (e : Belt) (r : List Belt) → wayOn p x t u ≡ some (e ∷ r) → v ≡ beltId (e .name)
 
 abbrev pub Guides : List ℕ → Fixings → ℕ → ℕ → List BeltId → Type 0
 Guides b f t s firsts = (u : ℕ) → s ≤ u → Begins (planOf b) (subproblemIn b f) t u (getD firsts u (beltId 0))
 
-abbrev pub complete : Subproblem → Option (List Belt) → Option (List Belt)
-complete x none = none
-complete x (some r) = orElse (all (passes r) (x .required)) r none
+abbrev pub havingAll : Subproblem → Option (List Belt) → Option (List Belt)
+havingAll x none = none
+havingAll x (some r) = orElse (all (passes r) (x .required)) r none

@@ -1,12 +1,12 @@
 -- Subproblems and their relaxed routes (paper 01, "Subproblems").
 --
---   Subproblem         some named belts required and some forbidden, each by its name
+--   Subproblem         some belts required and some forbidden, each by its name. Those of the search are named belts; nothing here asks it
 --   admits x r         route r has every required and no forbidden belt of subproblem x
---   firstOf rs         the one of the routes rs that comes before all others, if there are any
+--   firstOf rs         the one of the routes rs that comes before all others, if there are any: of two the earlier
 --   relaxed p s t x    the relaxed route: the first of ALL routes from s to t that x admits, rules left aside; none if x admits none
 --   Crosses u e        belt e leaves a junction ≤ u and arrives at one > u
 --   Restricts s t g r  what the required belt g asks of a route r from s to t: it leaves a junction from s on and before t, and no other
---                      belt of r crosses that junction
+--                      belt of r crosses that junction (cut)
 --
 -- That `relaxed` is the least of the admitted routes, and that a route has g exactly when g restricts it so (the cut behind 000's
 -- Proposition 2.2, as paper 01 repairs it), are laws (Claims.antt). How a relaxed route is found is no part of this. Assumes nothing.
@@ -45,4 +45,4 @@ Crosses u e = (e .leaves ≤ u) × (u < e .leads)
 pub record Restricts (s t : ℕ) (g : Belt) (r : List Belt) : Type 0 where
   pub from : s ≤ g .leaves
   pub before-t : g .leaves < t
-  pub alone : (e : Belt) → List·Memᴰ e r → Crosses (g .leaves) e → e ≡ g
+  pub cut : (e : Belt) → List·Memᴰ e r → Crosses (g .leaves) e → e ≡ g

@@ -1,11 +1,12 @@
 // The relaxed route of a subproblem: the first route from s to t with every required and no forbidden belt, rules left aside.
 //
 // One pass backwards over the junctions from t to s finds for each the cheapest way on to t; one walk forward along the first belts of these
-// ways is the route. The pass reads each belt that leaves a junction from s to t once, the walk those of the route once more.
+// ways is the route. The pass reads each belt that leaves a junction from s on and before t once, and no other; the walk reads those of the
+// route once more.
 //
 // A required belt that leaves u cuts: every other belt from a junction ≤ u to one > u drops out. Going backwards the cut needs no search. A
 // belt from u drops out if it leads past the nearest junction above u that a required belt leaves, or if a required belt leaves u and it
-// is another one. A required belt that does not leave a junction from s to t is not met by the walk.
+// is another one. A required belt that leaves no junction from s on and before t is not seen by the walk.
 use crate::masks;
 use crate::path::Route;
 use crate::path::Trip;
@@ -22,7 +23,7 @@ ghost use Rattle.plan.specs.Reading.{Accepted, IsBelt};
 ghost use Rattle.route.specs.Routes.{wrongEnds, costLimit};
 ghost use Rattle.route.specs.Subproblems.{relaxed};
 ghost use Rattle.route.specs.Values.{OfNamed, subproblemIn, namedPlaces, relaxedAs};
-ghost use Rattle.route.specs.Inner.{wayOver, preferred, noWay, wayBy, wayIn, wayCost, Guides, complete};
+ghost use Rattle.route.specs.Inner.{wayOver, preferred, noWay, wayBy, wayIn, wayCost, Guides, havingAll};
 
 // A subproblem: masks over the named belts of the plan, bit k for the belt at place k among them.
 pub struct Fixings {
@@ -53,13 +54,14 @@ struct Ways {
     firsts: [BeltId; 257],
 }
 
-// The cost of the cheapest way on over this belt, where the ways on from later junctions cost `costs` and no way leads past `limit`.
-fn way_over(p: &[u8], costs: &[u64; 257], limit: usize, belt: BeltId, forbidden: bool) -> u64
+// The cost of the cheapest way on over this belt, where the ways on from later junctions cost `costs`. A forbidden belt drops out, and one
+// that leads past `nearest`.
+fn way_over(p: &[u8], costs: &[u64; 257], nearest: usize, belt: BeltId, forbidden: bool) -> u64
     requires { ⌜ Accepted (now p) × IsBelt (now p) (belt .0) × ((j : ℕ) → getD (now costs) j 0 ≤ costLimit) ⌝ }
-    ensures { λ v. ⌜ v ≡ wayOver (now (costs .entry)) limit forbidden (beltAt (now (p .entry)) (belt .0)) ⌝ }
+    ensures { λ v. ⌜ v ≡ wayOver (now (costs .entry)) nearest forbidden (beltAt (now (p .entry)) (belt .0)) ⌝ }
 {
     let to = read::leads_to(p, belt);
-    if forbidden || limit < to {
+    if forbidden || nearest < to {
         return NO_WAY;
     }
     let on = costs[to];
@@ -107,11 +109,11 @@ fn way_from(
     places: &[u8; 2048],
     fixings: Fixings,
     costs: &[u64; 257],
-    limit: usize,
+    nearest: usize,
     u: usize,
 ) -> Way
     requires { ⌜ Accepted (now p) × (now places ≡ namedPlaces (now p)) × ((j : ℕ) → getD (now costs) j 0 ≤ costLimit) × (1 ≤ u) × (u ≤ planOf (now p) .junctions) ⌝ }
-    ensures { λ v. ⌜ v ≡ wayBy (subproblemIn (now (p .entry)) fixings) (now (costs .entry)) limit noWay (leaving (planOf (now (p .entry))) u) ⌝ }
+    ensures { λ v. ⌜ v ≡ wayBy (subproblemIn (now (p .entry)) fixings) (now (costs .entry)) nearest noWay (leaving (planOf (now (p .entry))) u) ⌝ }
 {
     let mut way = Way {
         cost: NO_WAY,
@@ -121,14 +123,20 @@ fn way_from(
     let mut belt = read::first_belt(p, u);
     while belt.0 != 0 {
         let place = named::place_of(places, belt);
-        let over = way_over(p, costs, limit, belt, masks::has(fixings.forbidden, place));
+        let over = way_over(
+            p,
+            costs,
+            nearest,
+            belt,
+            masks::has(fixings.forbidden, place),
+        );
         way = preferred(way, belt, over, masks::has(fixings.required, place));
         belt = read::next_belt(p, belt);
     }
     way
 }
 
-// The pass backwards. `limit` is the nearest junction above u that a required belt leaves, or t.
+// The pass backwards. `nearest` is the nearest junction above u that a required belt leaves, or t.
 fn ways_to(p: &[u8], places: &[u8; 2048], fixings: Fixings, s: usize, t: usize) -> Ways
     requires { ⌜ Accepted (now p) × (now places ≡ namedPlaces (now p)) × (1 ≤ s) × (s ≤ planOf (now p) .junctions) × (t ≤ planOf (now p) .junctions) ⌝ }
     ensures { λ v. ⌜ (v .cost ≡ wayCost (wayIn (now (p .entry)) fixings t s)) × Guides (now (p .entry)) fixings t s (v .firsts) ⌝ }
@@ -136,16 +144,16 @@ fn ways_to(p: &[u8], places: &[u8; 2048], fixings: Fixings, s: usize, t: usize) 
     let mut costs = [NO_WAY; 257];
     let mut firsts = [BeltId(0); 257];
     costs[t] = 0;
-    let mut limit = t;
+    let mut nearest = t;
     let mut u = t;
     while s < u {
         u -= 1;
-        let way = way_from(p, places, fixings, &costs, limit, u);
+        let way = way_from(p, places, fixings, &costs, nearest, u);
         let belt = way.belt;
         costs[u] = way.cost;
         firsts[u] = belt;
         if way.required {
-            limit = u;
+            nearest = u;
         }
     }
     Ways {
@@ -157,24 +165,24 @@ fn ways_to(p: &[u8], places: &[u8; 2048], fixings: Fixings, s: usize, t: usize) 
 // The walk forward, from s where there is a way on. The route is the relaxed one if it has every required belt.
 fn walk(p: &[u8], places: &[u8; 2048], fixings: Fixings, ways: Ways, s: usize, t: usize) -> Relaxed
     requires { ⌜ Accepted (now p) × (now places ≡ namedPlaces (now p)) × OfNamed (now p) (fixings .required) × (1 ≤ s) × (t ≤ planOf (now p) .junctions) × (ways .cost ≡ costLimit → ⊥) × (ways .cost ≡ wayCost (wayIn (now p) fixings t s)) × Guides (now p) fixings t s (ways .firsts) ⌝ }
-    ensures { λ v. ⌜ v ≡ relaxedAs (complete (subproblemIn (now (p .entry)) fixings) (wayIn (now (p .entry)) fixings t s)) ⌝ }
+    ensures { λ v. ⌜ v ≡ relaxedAs (havingAll (subproblemIn (now (p .entry)) fixings) (wayIn (now (p .entry)) fixings t s)) ⌝ }
 {
     let firsts = ways.firsts;
     let mut belts = [BeltId(0); 255];
     let mut count = 0;
-    let mut met = 0u64;
+    let mut seen = 0u64;
     let mut at = s;
     while at != t {
         let belt = firsts[at];
         let place = named::place_of(places, belt);
         if masks::has(fixings.required, place) {
-            met = masks::with(met, place);
+            seen = masks::with(seen, place);
         }
         belts[count] = belt;
         count += 1;
         at = read::leads_to(p, belt);
     }
-    if met != fixings.required {
+    if seen != fixings.required {
         return nothing();
     }
     Relaxed {

@@ -5,10 +5,10 @@ use borrow.Author.Needs.{needs}
 use Rattle.plan.specs.Plan.{planOf}
 use Rattle.route.specs.Subproblems.{relaxed}
 use Rattle.route.specs.Values.{subproblemIn, relaxedAs}
-use Rattle.route.specs.Inner.{wayIn, complete}
+use Rattle.route.specs.Inner.{wayIn, havingAll}
 use Rattle.route.proofs.ByName.{ends-junctions}
 use Rattle.route.proofs.Fixed.{fixed-belt}
-use Rattle.route.proofs.Onward.{complete-relaxed}
+use Rattle.route.proofs.Onward.{having-all-relaxed}
 use Rattle.route.proofs.Ways.{way-lost}
 use Rattle.route.proofs.relax.relaxed_route.Statement.{statement}
 use Rattle.route.proofs.relax.relaxed_route.Tie as tie
@@ -18,12 +18,12 @@ ends : (c : tie.Start) → let J = planOf (c .args .p .now) .junctions in let tr
     (1 ≤ trip .s) × (trip .s ≤ J) × (1 ≤ trip .t) × (trip .t ≤ J)
 ends c = ends-junctions (planOf (c .args .p .now)) (c .args .trip .s) (c .args .trip .t) (c .pre .2)
 
--- the way on from s, made complete, is the relaxed route
+-- the way on from s, made havingAll, is the relaxed route
 whole : (c : tie.Start)
-    → complete (subproblemIn (c .args .p .now) (c .args .fixings)) (wayIn (c .args .p .now) (c .args .fixings) (c .args .trip .t) (c .args .trip .s))
+    → havingAll (subproblemIn (c .args .p .now) (c .args .fixings)) (wayIn (c .args .p .now) (c .args .fixings) (c .args .trip .t) (c .args .trip .s))
     ≡ relaxed (planOf (c .args .p .now)) (c .args .trip .s) (c .args .trip .t) (subproblemIn (c .args .p .now) (c .args .fixings))
 whole c =
-    complete-relaxed (c .pre .0) (subproblemIn (c .args .p .now) (c .args .fixings)) (c .args .trip .t) (c .args .trip .s)
+    having-all-relaxed (c .pre .0) (subproblemIn (c .args .p .now) (c .args .fixings)) (c .args .trip .t) (c .args .trip .s)
     (fixed-belt (c .pre .0) (c .args .fixings .required))
 
 ways-to-requires : tie.Need-ways-to-requires
@@ -41,7 +41,7 @@ returns c =
     let x = subproblemIn (start .args .p .now) (start .args .fixings) in
     let lost = way-lost (start .pre .0) (λ i. known .shared-slice-known .given i .fits) x (start .args .trip .t) (ends start .3) (start .args .trip .s)
     (sym (c .before .before .before .ways-to .ensures .0) ∙ c .before .if1 .taken) in
-    c .nothing .ensures ∙ ap relaxedAs (sym (ap (complete x) lost) ∙ whole start)
+    c .nothing .ensures ∙ ap relaxedAs (sym (ap (havingAll x) lost) ∙ whole start)
 
 walk-requires : tie.Need-walk-requires
 walk-requires c κs =

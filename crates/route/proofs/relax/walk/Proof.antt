@@ -20,10 +20,10 @@ use Rattle.route.proofs.relax.walk.Statement.{statement}
 use Rattle.route.proofs.relax.walk.Tie as tie
 
 abbrev Inv-loop : tie.InvT-loop
-Inv-loop p places fixings ways s t firsts belts₀ count₀ met₀ at₀ belts count met at = Walked p fixings s t at count belts met
+Inv-loop p places fixings ways s t firsts belts₀ count₀ met₀ at₀ belts count seen at = Walked p fixings s t at count belts seen
 
 abbrev μ-loop : tie.MeasureT-loop
-μ-loop p places fixings ways s t firsts belts₀ count₀ met₀ at₀ belts count met at = t - at
+μ-loop p places fixings ways s t firsts belts₀ count₀ met₀ at₀ belts count seen at = t - at
 
 loop-holds : tie.Need-loop-holds Inv-loop μ-loop
 loop-holds c = let pre = c .before .before .pre in walked-start (pre .0) (pre .3) (pre .4) (pre .6) (pre .5)
@@ -39,7 +39,7 @@ abbrev belt : tie.In-loop Inv-loop μ-loop → BeltId
 belt c = getD (start c .args .ways .firsts) (c .before .loop .at) (beltId 0)
 
 step : (c : tie.In-loop Inv-loop μ-loop)
-    → Step (plan c) (start c .args .fixings) (start c .args .s) (start c .args .t) (c .before .loop .at) (c .before .loop .count) (c .before .loop .belts) (c .before .loop .met) (belt c)
+    → Step (plan c) (start c .args .fixings) (start c .args .s) (start c .args .t) (c .before .loop .at) (c .before .loop .count) (c .before .loop .belts) (c .before .loop .seen) (belt c)
 step c =
     let pre = start c .pre in
     walked-next (pre .0) (c .before .loop .inv) (start c .args .ways .firsts) (pre .7) (c .loop-test .taken)
@@ -93,24 +93,24 @@ loop-less c =
 -- what is gathered behind the belt
 joined : (c : tie.Joined1 Inv-loop μ-loop)
     → let turn = c .before .before .before .before .before in
-    c .if1 .met ≡ gathering (plan turn) (start turn .args .fixings) (turn .before .loop .met) (belt turn .0 ∷ [])
+    c .if1 .seen ≡ gathering (plan turn) (start turn .args .fixings) (turn .before .loop .seen) (belt turn .0 ∷ [])
 joined c =
     let turn = c .before .before .before .before .before in
-    let met = turn .before .loop .met in
+    let seen = turn .before .loop .seen in
     let q = c .before .before .place-of .result in
     let is = sym (c .before .has .ensures) in
     ⊎-elim
-    (λ w. w .2 ∙ w .1 .ensures ∙ ap (λ (t : Bool). joining t met q) (sym (is ∙ w .0 .taken)))
-    (λ w. w .1 ∙ ap (λ (t : Bool). joining t met q) (sym (is ∙ w .0 .left)))
+    (λ w. w .2 ∙ w .1 .ensures ∙ ap (λ (t : Bool). joining t seen q) (sym (is ∙ w .0 .taken)))
+    (λ w. w .1 ∙ ap (λ (t : Bool). joining t seen q) (sym (is ∙ w .0 .left)))
     (c .if1 .came)
-    ∙ ap (λ (x : Place). joining (inMask (start turn .args .fixings .required) x) met x) (there (c .before .before))
+    ∙ ap (λ (x : Place). joining (inMask (start turn .args .fixings .required) x) seen x) (there (c .before .before))
 
 loop-again : tie.Need-loop-again Inv-loop μ-loop
 loop-again c =
     let turn = c .before .before .before .before .before .before in
     let loop = turn .before .loop in
     let args = start turn .args in
-    subst₂ (λ (u met : ℕ). Walked (plan turn) (args .fixings) (args .s) (args .t) u (loop .count + 1) (set (loop .belts) (loop .count) (belt turn)) met)
+    subst₂ (λ (u seen : ℕ). Walked (plan turn) (args .fixings) (args .s) (args .t) u (loop .count + 1) (set (loop .belts) (loop .count) (belt turn)) seen)
     (sym (c .leads-to .ensures))
     (sym (joined (c .before)))
     (step turn .walked)

@@ -22,26 +22,26 @@ use Rattle.route.proofs.relax.way_from.Statement.{statement}
 use Rattle.route.proofs.relax.way_from.Tie as tie
 
 -- one turn: the belt is looked at as the definition looks at it, its place telling whether it is forbidden and whether it is required
-turn : {b : List ℕ} → Accepted b → (f : Fixings) (costs : List ℕ) (limit : ℕ) (way : Way) (e : BeltId) → IsBelt b (e .0)
+turn : {b : List ℕ} → Accepted b → (f : Fixings) (costs : List ℕ) (nearest : ℕ) (way : Way) (e : BeltId) → IsBelt b (e .0)
     → {q : Place} → q ≡ placeOf (named (planOf b)) (e .0) → {out need : Bool} {over : ℕ}
-    → out ≡ inMask (f .forbidden) q → need ≡ inMask (f .required) q → over ≡ wayOver costs limit out (beltAt b (e .0))
-    → wayBy (subproblemIn b f) costs limit (preferred way e over need) (beltsFrom b (nextBelt b (e .0))) ≡ wayBy (subproblemIn b f) costs limit way (beltsFrom b (e .0))
-turn {b} ok f costs limit way e is there {out} {need} ho hn hc =
+    → out ≡ inMask (f .forbidden) q → need ≡ inMask (f .required) q → over ≡ wayOver costs nearest out (beltAt b (e .0))
+    → wayBy (subproblemIn b f) costs nearest (preferred way e over need) (beltsFrom b (nextBelt b (e .0))) ≡ wayBy (subproblemIn b f) costs nearest way (beltsFrom b (e .0))
+turn {b} ok f costs nearest way e is there {out} {need} ho hn hc =
     let x = subproblemIn b f in
     let ns = named (planOf b) in
     let forbidden : out ≡ mem (e .0) (x .forbidden) = ho ∙ ap (inMask (f .forbidden)) there ∙ sym (fixed-mem ns (f .forbidden) (e .0)) in
     let required : need ≡ mem (e .0) (x .required) = hn ∙ ap (inMask (f .required)) there ∙ sym (fixed-mem ns (f .required) (e .0)) in
-    let price = hc ∙ ap (λ (t : Bool). wayOver costs limit t (beltAt b (e .0))) forbidden in
-    (λ i. wayBy x costs limit (preferred way e (price i) (required i)) (beltsFrom b (nextBelt b (e .0))))
-    ∙ sym (ap (wayBy x costs limit way) (belts-next ok (e .0) is))
+    let costBy = hc ∙ ap (λ (t : Bool). wayOver costs nearest t (beltAt b (e .0))) forbidden in
+    (λ i. wayBy x costs nearest (preferred way e (costBy i) (required i)) (beltsFrom b (nextBelt b (e .0))))
+    ∙ sym (ap (wayBy x costs nearest way) (belts-next ok (e .0) is))
 
 abbrev Inv-loop : tie.InvT-loop
-Inv-loop p places fixings costs limit u way₀ belt₀ way belt =
+Inv-loop p places fixings costs nearest u way₀ belt₀ way belt =
     ((belt .0 ≡ 0 → ⊥) → IsBelt p (belt .0))
-    × (wayBy (subproblemIn p fixings) costs limit way (beltsFrom p (belt .0)) ≡ wayBy (subproblemIn p fixings) costs limit noWay (leaving (planOf p) u))
+    × (wayBy (subproblemIn p fixings) costs nearest way (beltsFrom p (belt .0)) ≡ wayBy (subproblemIn p fixings) costs nearest noWay (leaving (planOf p) u))
 
 abbrev μ-loop : tie.MeasureT-loop
-μ-loop p places fixings costs limit u way₀ belt₀ way belt = length (beltsFrom p (belt .0))
+μ-loop p places fixings costs nearest u way₀ belt₀ way belt = length (beltsFrom p (belt .0))
 
 first-belt-requires : tie.Need-first-belt-requires Inv-loop μ-loop
 first-belt-requires c κs = let h = c .before .pre in (h .0, h .3, h .4)
@@ -53,7 +53,7 @@ loop-holds c =
     let h = start .pre in
     let u = start .args .u in
     let e = c .first-belt .ensures in
-    let by = wayBy (subproblemIn p (start .args .fixings)) (start .args .costs .now) (start .args .limit) noWay in (
+    let by = wayBy (subproblemIn p (start .args .fixings)) (start .args .costs .now) (start .args .nearest) noWay in (
       λ d. subst (IsBelt p) (sym e) (first-belt-is (h .0) u (h .3) (h .4) (λ z. d (e ∙ z))),
       ap (λ (i : ℕ). by (beltsFrom p i)) e ∙ sym (ap by (leaving-from (h .0) u (h .3) (h .4))),
     )
@@ -125,8 +125,8 @@ loop-again c =
     let p = a .p .now in
     let e = at .loop .belt in
     let n = c .next-belt .ensures in
-    let by = wayBy (subproblemIn p (a .fixings)) (a .costs .now) (a .limit) in
-    let looked = turn (start .pre .0) (a .fixings) (a .costs .now) (a .limit) (at .loop .way) e (is-belt here) (there found) in (
+    let by = wayBy (subproblemIn p (a .fixings)) (a .costs .now) (a .nearest) in
+    let looked = turn (start .pre .0) (a .fixings) (a .costs .now) (a .nearest) (at .loop .way) e (is-belt here) (there found) in (
       λ d. subst (IsBelt p) (sym n) (next-belt-is (start .pre .0) (e .0) (is-belt here) (λ z. d (n ∙ z)) .1),
       (λ i. by (way .ensures i) (beltsFrom p (n i))) ∙ looked (forbidden .ensures) (required .ensures) (over .ensures) ∙ at .loop .inv .1,
     )
@@ -136,7 +136,7 @@ returns c =
     let at = c .before .before in
     let start = at .before .before .before in
     let p = start .args .p .now in
-    let by = wayBy (subproblemIn p (start .args .fixings)) (start .args .costs .now) (start .args .limit) (at .loop .way) in
+    let by = wayBy (subproblemIn p (start .args .fixings)) (start .args .costs .now) (start .args .nearest) (at .loop .way) in
     sym (ap (λ (i : ℕ). by (beltsFrom p i)) (c .if1 .left) ∙ ap by (belts-end (start .pre .0))) ∙ at .loop .inv .1
 
 pub way-from-spec : {M : Type 1} → statement M

@@ -17,11 +17,11 @@ leads-to-requires c κs = search needs
 
 returns : tie.Need-returns
 returns c =
-    let limit = c .before .before .before .args .limit in
+    let nearest = c .before .before .before .args .nearest in
     let to = sym (c .before .leads-to .ensures) in
     ⊎-elim
     (λ w. simp (w .taken))
-    (λ w. simp (w .0 .left, ap (ltb limit) to ∙ w .1 .taken))
+    (λ w. simp (w .0 .left, ap (ltb nearest) to ∙ w .1 .taken))
     (c .if1 .came)
 
 -- a belt leads to a junction, and there are at most 256
@@ -44,7 +44,7 @@ returns-2 c =
     let start = past .before .before .before .before in
     let to = sym (past .before .before .leads-to .ensures) in
     let none = ap (λ (j : ℕ). getD (start .args .costs .now) j 0) to ∙ c .if3 .taken in
-    simp (past .before .if1 .left, ap (ltb (start .args .limit)) to ∙ past .if2 .left) (sym (by-none (beltAt (start .args .p .now) (start .args .belt .0)) _ none))
+    simp (past .before .if1 .left, ap (ltb (start .args .nearest)) to ∙ past .if2 .left) (sym (by-none (beltAt (start .args .p .now) (start .args .belt .0)) _ none))
 
 cost-requires : tie.Need-cost-requires
 cost-requires c κs = search needs
@@ -62,7 +62,7 @@ returns-3 c =
     let to = past .before .before .leads-to .ensures in
     let on = ap (λ (j : ℕ). getD (start .args .costs .now) j 0) to in
     let sum = (λ i. c .cost .ensures .0 i + on i) ∙ sym (by-some e _ (λ z. c .before .if3 .left (on ∙ z))) in
-    simp (past .before .if1 .left, ap (ltb (start .args .limit)) (sym to) ∙ past .if2 .left) sum
+    simp (past .before .if1 .left, ap (ltb (start .args .nearest)) (sym to) ∙ past .if2 .left) sum
 
 pub way-over-spec : {M : Type 1} → statement M
 way-over-spec =

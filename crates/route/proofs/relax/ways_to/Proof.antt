@@ -9,10 +9,10 @@ use Rattle.route.proofs.relax.ways_to.Statement.{statement}
 use Rattle.route.proofs.relax.ways_to.Tie as tie
 
 abbrev Inv-loop : tie.InvT-loop
-Inv-loop p places fixings s t costs₀ firsts₀ limit₀ u₀ costs firsts limit u = Passed p (subproblemIn p fixings) t u limit costs firsts
+Inv-loop p places fixings s t costs₀ firsts₀ limit₀ u₀ costs firsts nearest u = Passed p (subproblemIn p fixings) t u nearest costs firsts
 
 abbrev μ-loop : tie.MeasureT-loop
-μ-loop p places fixings s t costs₀ firsts₀ limit₀ u₀ costs firsts limit u = u
+μ-loop p places fixings s t costs₀ firsts₀ limit₀ u₀ costs firsts nearest u = u
 
 -- s and t are junctions, and there are at most 256
 inside : (c : tie.Start Inv-loop μ-loop) → (c .args .s < 257) × (c .args .t < 257)
