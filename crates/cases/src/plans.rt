@@ -2,6 +2,11 @@
 use crate::lines;
 use crate::records::Bytes;
 use crate::records::put;
+ghost use mathlib.Core.Path.{_≡_};
+ghost use Prim.Native.Nat.{_+_};
+ghost use lib.ListN.{getD, drop};
+ghost use Rattle.cases.specs.Lines.{numbersIn, changed};
+ghost use Rattle.cases.specs.Plans.{blank, putP, putNamed, putRow, putBase, baseOf, planAt};
 
 // Where a plan starts from.
 pub enum Base {
@@ -20,7 +25,9 @@ pub struct Plan {
 }
 
 // A plan of no bytes.
-pub fn none() -> Plan {
+pub fn none() -> Plan
+    ensures { λ v. ⌜ (v .bytes ≡ blank) × (v .size ≡ 0) ⌝ }
+{
     let bytes = [0u8; 24600];
     Plan {
         bytes: bytes,
@@ -29,7 +36,9 @@ pub fn none() -> Plan {
 }
 
 // Writes plan P of the paper.
-pub fn put_p(buf: &mut Bytes) {
+pub fn put_p(buf: &mut Bytes)
+    ensures { λ _. ⌜ now (buf .exit) ≡ putP (now (buf .entry)) ⌝ }
+{
     put(buf, 0, [7, 3, 1, 7, 10, 0]);
     put(buf, 1, [1, 4, 0, 0, 0, 0]);
     put(buf, 2, [1, 6, 0, 0, 0, 0]);
@@ -42,7 +51,9 @@ pub fn put_p(buf: &mut Bytes) {
     put(buf, 9, [4, 0, 0, 0, 6, 0]);
 }
 
-fn put_named(buf: &mut Bytes) {
+fn put_named(buf: &mut Bytes)
+    ensures { λ _. ⌜ now (buf .exit) ≡ putNamed (now (buf .entry)) ⌝ }
+{
     put(buf, 0, [7, 2, 0, 52, 102, 0]);
     put(buf, 1, [1, 3, 0, 0, 0, 0]);
     put(buf, 2, [1, 0, 0, 0, 0, 0]);
@@ -58,7 +69,9 @@ fn put_named(buf: &mut Bytes) {
 }
 
 // Belt 256 + j leaves junction j.
-fn put_row(buf: &mut Bytes) {
+fn put_row(buf: &mut Bytes)
+    ensures { λ _. ⌜ now (buf .exit) ≡ putRow (now (buf .entry)) ⌝ }
+{
     put(buf, 0, [7, 256, 10, 512, 515, 0]);
     let mut j: u16 = 1;
     while j < 256 {
@@ -73,7 +86,9 @@ fn put_row(buf: &mut Bytes) {
 }
 
 // Writes the plan that is started from.
-fn put_base(buf: &mut Bytes, base: Base) {
+fn put_base(buf: &mut Bytes, base: Base)
+    ensures { λ _. ⌜ now (buf .exit) ≡ putBase (now (buf .entry)) base ⌝ }
+{
     match base {
         Base::P => put_p(buf),
         Base::Named => put_named(buf),
@@ -82,7 +97,9 @@ fn put_base(buf: &mut Bytes, base: Base) {
 }
 
 // Where the plan of the line `= P 84 ..` that begins at `at` starts from: P, N or R. The mark before the letter may be another.
-pub fn base_of(text: &[u8], at: usize) -> Base {
+pub fn base_of(text: &[u8], at: usize) -> Base
+    ensures { λ v. ⌜ v ≡ baseOf (getD (now (text .entry)) (at + 2) 10) ⌝ }
+{
     let letter = lines::byte_at(text, at, 2);
     if letter == b'N' {
         return Base::Named;
@@ -94,7 +111,9 @@ pub fn base_of(text: &[u8], at: usize) -> Base {
 }
 
 // The plan of such a line: it starts from what the letter says, has so many bytes, and differs in the records that follow.
-pub fn read(text: &[u8], at: usize) -> Plan {
+pub fn read(text: &[u8], at: usize) -> Plan
+    ensures { λ v. ⌜ v ≡ planAt (now (text .entry)) at ⌝ }
+{
     let mut bytes = [0u8; 24600];
     put_base(&mut bytes, base_of(text, at));
     let size = lines::next_number(text, at);
@@ -106,7 +125,9 @@ pub fn read(text: &[u8], at: usize) -> Plan {
 }
 
 // The plan with the records changed that the line has behind `at`.
-pub fn changed(plan: Plan, text: &[u8], at: usize) -> Plan {
+pub fn changed(plan: Plan, text: &[u8], at: usize) -> Plan
+    ensures { λ v. ⌜ (v .bytes ≡ changed (plan .bytes) (numbersIn (drop at (now (text .entry))))) × (v .size ≡ plan .size) ⌝ }
+{
     let mut bytes = plan.bytes;
     lines::change_records(&mut bytes, text, at);
     Plan {

@@ -1,11 +1,16 @@
--- `put_named`: the belts left to write are fewer at each turn.
+-- `cases::plans::put_named` meets its contract: to write the belts that are left over what is written gives what it gave at the start, and at each
+-- turn fewer are left. Assumes nothing.
+use mathlib.Core.Path.{_≡_, refl}
 use Prim.Native.Nat.{_-_}
 use borrow.Author.Needs.{needs}
+use Rattle.plan.specs.Lists.{upto}
+use Rattle.cases.specs.Plans.{putTwins, putNamed}
+use Rattle.cases.proofs.Bases.{over, twins-next, twins-done}
 use Rattle.cases.proofs.plans.put_named.Statement.{statement}
 use Rattle.cases.proofs.plans.put_named.Tie as tie
 
 abbrev Inv-loop : tie.InvT-loop
-Inv-loop buf₀ e₀ buf e = Unit {0}
+Inv-loop buf₀ e₀ buf e = putTwins buf (upto e 51) ≡ putTwins buf₀ (upto 3 51)
 
 abbrev μ-loop : tie.MeasureT-loop
 μ-loop buf₀ e₀ buf e = 51 - e
@@ -20,7 +25,7 @@ put-requires-3 : tie.Need-put-requires-3 Inv-loop μ-loop
 put-requires-3 c κs = search needs
 
 loop-holds : tie.Need-loop-holds Inv-loop μ-loop
-loop-holds c = search needs
+loop-holds c = refl
 
 cast-put : tie.Need-cast-put Inv-loop μ-loop
 cast-put c = search needs
@@ -50,7 +55,9 @@ loop-less : tie.Need-loop-less Inv-loop μ-loop
 loop-less c = search needs
 
 loop-again : tie.Need-loop-again Inv-loop μ-loop
-loop-again c = search needs
+loop-again c =
+    let at = c .before .before .before .before in
+    twins-next _ _ _ _ _ (at .loop-test .taken) (c .before .before .put4 .ensures) (c .put5 .ensures) (at .before .loop .inv)
 
 put-requires-6 : tie.Need-put-requires-6 Inv-loop μ-loop
 put-requires-6 c κs = search needs
@@ -62,7 +69,17 @@ put-requires-8 : tie.Need-put-requires-8 Inv-loop μ-loop
 put-requires-8 c κs = search needs
 
 returns : tie.Need-returns Inv-loop μ-loop
-returns c = search needs
+unfolding putNamed
+returns c =
+    let call7 = c .before .before in
+    let call6 = call7 .before .before in
+    let end = call6 .before .before in
+    let call3 = end .before .before in
+    let call2 = call3 .before .before in
+    let call1 = call2 .before .before in
+    let three = over _ _ (over _ _ (call1 .put .ensures) (call2 .put2 .ensures)) (call3 .put3 .ensures) in
+    let belts = twins-done _ _ _ _ (end .loop-test .left) (end .before .loop .inv) three in
+    over _ _ (over _ _ (over _ _ belts (call6 .put6 .ensures)) (call7 .put7 .ensures)) (c .put8 .ensures)
 
 pub put-named-spec : {M : Type 1} → statement M
 put-named-spec =

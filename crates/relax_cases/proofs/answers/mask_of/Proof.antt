@@ -31,7 +31,7 @@ with-requires c κs = search needs
 loop-less : tie.Need-loop-less Inv-loop μ-loop
 loop-less c =
     let n = c .before .before .before .before .next-number in
-    let found = n .ensures (not-false (n .result .found) (c .before .before .if1 .left)) in
+    let found = n .ensures .1 (not-false (n .result .found) (c .before .before .if1 .left)) in
     omega (arith, found .0, found .1)
 
 loop-again : tie.Need-loop-again Inv-loop μ-loop

@@ -25,7 +25,7 @@ next-line-requires : tie.Need-next-line-requires Inv-loop μ-loop
 next-line-requires c κs = search needs
 
 loop-less : tie.Need-loop-less Inv-loop μ-loop
-loop-less c = let moved = c .next-line .ensures (omega arith) in omega (arith, moved)
+loop-less c = let moved = c .next-line .ensures .1 (omega arith) in omega (arith, moved)
 
 loop-again : tie.Need-loop-again Inv-loop μ-loop
 loop-again c = search needs

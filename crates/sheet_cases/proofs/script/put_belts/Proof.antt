@@ -37,7 +37,7 @@ put-belt-requires c κs = search needs
 loop-less : tie.Need-loop-less Inv-loop μ-loop
 loop-less c =
     let n = c .before .before .before .before .before .next-number in
-    let found = n .ensures (not-false (n .result .found) (c .before .before .before .if1 .left)) in
+    let found = n .ensures .1 (not-false (n .result .found) (c .before .before .before .if1 .left)) in
     omega (arith, found .0, found .1)
 
 loop-again : tie.Need-loop-again Inv-loop μ-loop
@@ -46,7 +46,7 @@ loop-again c = search needs
 loop-less-2 : tie.Need-loop-less-2 Inv-loop μ-loop
 loop-less-2 c =
     let n = c .before .before .before .next-number in
-    let found = n .ensures (not-false (n .result .found) (c .before .if1 .left)) in
+    let found = n .ensures .1 (not-false (n .result .found) (c .before .if1 .left)) in
     omega (arith, found .0, found .1)
 
 loop-again-2 : tie.Need-loop-again-2 Inv-loop μ-loop

@@ -1,0 +1,11 @@
+-- `cases::plans::none` meets its contract. Assumes nothing.
+use mathlib.Core.Path.{refl}
+use Rattle.cases.proofs.Bases.{blank-is}
+use Rattle.cases.proofs.plans.none.Statement.{statement}
+use Rattle.cases.proofs.plans.none.Tie as tie
+
+returns : tie.Need-returns
+returns c = (blank-is, refl)
+
+pub none-spec : {M : Type 1} → statement M
+none-spec = tie.close (tie.spec returns)

@@ -1,0 +1,4 @@
+-- In the order in which to read them.
+pub mod Records
+pub mod Lines
+pub mod Plans
