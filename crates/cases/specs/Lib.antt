@@ -2,3 +2,4 @@
 pub mod Records
 pub mod Lines
 pub mod Plans
+pub mod Examples
