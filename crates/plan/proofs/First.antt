@@ -2,6 +2,7 @@
 --
 --   on-broken, on-unbroken
 --                   one more line in front, broken or not
+--   front-first     where one of the lines in front is broken, the lines behind do not count
 --   first-is        what firstBroken answers: 0 and no line is broken, or the number of the first broken one
 --   past            lines that are unbroken are passed over
 --   is-first        and it answers that number only
@@ -30,6 +31,16 @@ module _ {A : Type 0} where
 
   pub on-unbroken : (l : Line A) (ls : List (Line A)) (b : A) → l .broken b ≡ false → firstBroken (l ∷ ls) b ≡ firstBroken ls b
   on-unbroken l ls b e = ap (λ (t : Bool). elim t [ true ↦ l .number | false ↦ firstBroken ls b ]) e
+
+  pub front-first : (rest : List (Line A)) (b : A) (ls : List (Line A)) → (firstBroken ls b ≡ 0 → ⊥) → firstBroken (ls ++ rest) b ≡ firstBroken ls b
+  front-first rest b [] h = absurd (h refl)
+  front-first rest b (l ∷ ls) h = go (l .broken b) h (front-first rest b ls)
+    where
+      go : (t : Bool) → (_≡_ {A = ℕ} (elim t [ true ↦ l .number | false ↦ firstBroken ls b ]) 0 → ⊥)
+          → ((firstBroken ls b ≡ 0 → ⊥) → firstBroken (ls ++ rest) b ≡ firstBroken ls b)
+          → _≡_ {A = ℕ} (elim t [ true ↦ l .number | false ↦ firstBroken (ls ++ rest) b ]) (elim t [ true ↦ l .number | false ↦ firstBroken ls b ])
+      go true h below = refl
+      go false h below = below h
 
   more : (l : Line A) (ls : List (Line A)) (b : A) → l .broken b ≡ false → Unbroken ls b → Unbroken (l ∷ ls) b
   more l ls b e h = each (λ (k : Line A). k .broken b ≡ false) e h

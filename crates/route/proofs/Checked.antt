@@ -17,7 +17,7 @@ use mathlib.Core.Path.{_≡_, refl, sym, _∙_, ap}
 use mathlib.Core.Logic.{_⊎_, inl, inr}
 use mathlib.Core.Bool.{Bool, true, false, not, _&&_}
 use Prim.Native.Nat.{ℕ, _^_, _≤_}
-use mathlib.Core.List.{List, [], _∷_, _++_, map, List·Memᴰ, List·Memᴰ·head, List·Memᴰ·tail, List·Memᴰ·eq-of-singleton, List·Memᴰ·append-cases, Memᴰ·append-left, Memᴰ·append-right}
+use mathlib.Core.List.{List, [], _∷_, map, List·Memᴰ, List·Memᴰ·head, List·Memᴰ·tail, List·Memᴰ·eq-of-singleton, List·Memᴰ·append-cases, Memᴰ·append-left, Memᴰ·append-right}
 use lib.Dec.{eqb, ltb}
 use Rattle.plan.specs.Lists.{all, mem, within}
 use Rattle.plan.specs.Plan.{planOf, namesOf}
@@ -25,7 +25,7 @@ use Rattle.plan.specs.Refusals.{Line, planLines, firstBroken, refusal}
 use Rattle.plan.specs.Claims.{Unbroken}
 use Rattle.plan.specs.Reading.{Accepted}
 use Rattle.plan.proofs.Lists.{and-is, is-within, in-map, map-in}
-use Rattle.plan.proofs.First.{on-broken, on-unbroken, past, none-broken, first-exactly, passed}
+use Rattle.plan.proofs.First.{front-first, on-broken, on-unbroken, past, none-broken, first-exactly, passed}
 use Rattle.plan.proofs.Accepted.{unbroken}
 use Rattle.route.specs.Refusals.{Case, onPlan, broken8, broken11, broken12, broken13, broken14, queryLines, sheetLines, checkLines, sheetRefusal}
 use Rattle.route.specs.declared.sheet.Sheet.{Sheet}
@@ -43,22 +43,6 @@ first-refusal k n = first-exactly checkLines k n
 
 -- ---- lines of plans
 
-module _ (k : Case) (rest : List (Line Case)) where
-  Same : Bool → ℕ → ℕ → ℕ → Type 0
-  Same t n a b = _≡_ {A = ℕ} (elim t [ true ↦ n | false ↦ a ]) (elim t [ true ↦ n | false ↦ b ])
-
-  -- a broken line of the plan is the first of all
-  plan-first : (ls : List (Line (List ℕ))) → (firstBroken ls (k .plan) ≡ 0 → ⊥) → firstBroken (map onPlan ls ++ rest) k ≡ firstBroken ls (k .plan)
-  unfolding Same
-  plan-first [] h = absurd (h refl)
-  plan-first (l ∷ ls) h = go (l .broken (k .plan)) h (plan-first ls)
-    where
-      go : (t : Bool) → (_≡_ {A = ℕ} (elim t [ true ↦ l .number | false ↦ firstBroken ls (k .plan) ]) 0 → ⊥)
-          → ((firstBroken ls (k .plan) ≡ 0 → ⊥) → firstBroken (map onPlan ls ++ rest) k ≡ firstBroken ls (k .plan))
-          → Same t (l .number) (firstBroken (map onPlan ls ++ rest) k) (firstBroken ls (k .plan))
-      go true h below = refl
-      go false h below = below h
-
 -- lines that the plan leaves unbroken are unbroken by the case
 on-plan : (k : Case) (ls : List (Line (List ℕ))) → Unbroken ls (k .plan) → Unbroken (map onPlan ls) k
 on-plan k ls h l m = let (x, n, q) = map-in onPlan ls m in ap (λ (y : Line Case). y .broken k) q ∙ h x n
@@ -68,7 +52,7 @@ line8 = record { number = 8; broken = broken8 }
 
 pub refused-plan : (k : Case) → (refusal (k .plan) ≡ 0 → ⊥) → sheetRefusal k ≡ refusal (k .plan)
 unfolding refusal sheetRefusal
-refused-plan k h = plan-first k (line8 ∷ sheetLines) planLines h
+refused-plan k h = front-first (line8 ∷ sheetLines) k (map onPlan planLines) h
 
 -- ---- lines of cases, the plan being accepted
 
@@ -137,7 +121,7 @@ module _ (k : Case) where
   unfolding refusal
   query-accepted h = record { unrefused = none-broken planLines (k .plan) (λ l m. h (onPlan l) (Memᴰ·append-left (line8 ∷ []) (in-map onPlan m))) }
 
-  query-ends : Unbroken queryLines k → broken8 k ≡ false
+  pub query-ends : Unbroken queryLines k → broken8 k ≡ false
   query-ends h = h line8 (Memᴰ·append-right (map onPlan planLines) (List·Memᴰ·head refl))
 
   pub unrefused-zero : Unrefused k → sheetRefusal k ≡ 0
