@@ -20,6 +20,7 @@
 --   ids-packed       a packed route holds the belts that were packed
 --   packed-sets      belts stored from the front of an array of 255 are `packed`
 --   known-route      the belts that a known Route holds are the belts at their records
+--   known-names      and their names are those that it holds
 --
 -- Assumes nothing.
 use mathlib.Core.Path.{_≡_, refl, sym, _∙_, ap}
@@ -149,3 +150,6 @@ packed-sets = ids-sets 255
 
 pub known-route : {b : List ℕ} → Accepted b → (r : Route) → Known b r → routeIn b r ≡ map (beltAt b) (idsOf r)
 known-route ok r k = named-map ok (idsOf r) (k .belts)
+
+pub known-names : {b : List ℕ} → Accepted b → (r : Route) → Known b r → namesOf (routeIn b r) ≡ idsOf r
+known-names {b} ok r k = ap namesOf (known-route ok r k) ∙ map-map (λ (e : Belt). e .name) (beltAt b) (idsOf r) ∙ map-id (idsOf r)

@@ -1,22 +1,21 @@
 -- Any choice of named belts as a mask.
 --
 --   bit-claim     bit k of a mask is for the k-th of the named belts (BitClaim)
+--   maskOf ns es  the mask of the belts es, among the named belts ns
+--   mask-low      it is of named belts; mask-has: it has exactly the belts es
 --   masks-claim   every subproblem of named belts has masks (MasksClaim)
 --
 -- Assumes nothing.
-use mathlib.Core.Path.{_≡_, refl, sym, _∙_, ap, subst}
+use mathlib.Core.Path.{_≡_, refl, sym, _∙_, ap}
 use mathlib.Core.Bool.{Bool, true, _||_, or-comm}
 use mathlib.Core.Option.{Option, none, some}
-use Prim.Native.Nat.{ℕ, _%_, _^_, _<_}
+use Prim.Native.Nat.{ℕ, _^_, _<_}
 use mathlib.Core.List.{List, [], _∷_, List·Memᴰ, List·Memᴰ·head, List·Memᴰ·tail}
-use native.Mathlib.Nat.{zero-div}
 use lib.ListN.{length, getD}
-use lib.Dec.{eqb, ltb}
-use lib.Pow.{pow-lt, pow-pos}
-use lib.Bits.{or-lt}
-use Rattle.plan.specs.declared.named.Place.{Place}
+use lib.Dec.{eqb}
+use lib.Pow.{pow-pos}
 use Rattle.plan.specs.declared.named.Place.the-variants.{At}
-use Rattle.plan.specs.Lists.{count, mem}
+use Rattle.plan.specs.Lists.{mem}
 use Rattle.plan.specs.Plan.{Belt, planOf, named, placeOf}
 use Rattle.plan.specs.Reading.{Accepted}
 use Rattle.plan.proofs.Lists.{keep-in, in-mem, mem-in}
@@ -25,11 +24,10 @@ use Rattle.plan.proofs.Naming.{named-rises}
 use Rattle.plan.proofs.Places.{at-place, place-in, place-at}
 use Rattle.route.specs.declared.relax.Fixings.{Fixings}
 use Rattle.route.specs.Subproblems.{Subproblem, admits, relaxed}
-use Rattle.route.specs.Values.{inMask, fixedIn, subproblemIn}
-use Rattle.route.specs.Inner.{withPlace}
+use Rattle.route.specs.Values.{inMask, fixedIn, subproblemIn, withPlace}
 use Rattle.route.specs.Claims.{BitClaim, MasksClaim}
 use Rattle.route.proofs.Firsts.{admits-is, is-admits, relaxed-some, relaxed-none, is-relaxed, no-relaxed}
-use Rattle.route.proofs.Fixed.{fixed-mem, with-belt}
+use Rattle.route.proofs.Fixed.{fixed-mem, nothing-has, with-low, with-belt}
 
 pub bit-claim : BitClaim
 bit-claim b m k l =
@@ -39,21 +37,18 @@ bit-claim b m k l =
     ap (λ (n : ℕ). mem n (fixedIn ns m)) here ∙ fixed-mem ns m e ∙ ap (inMask m) (place-in e ns i ∙ ap (λ (j : ℕ). At j) q)
 
 -- the mask of the belts es
-abbrev maskOf : List ℕ → List ℕ → ℕ
+abbrev pub maskOf : List ℕ → List ℕ → ℕ
 maskOf ns [] = 0
 maskOf ns (e ∷ es) = withPlace (maskOf ns es) (placeOf ns e)
 
 module _ {ns : List ℕ} (rises : Rises ns) where
-  mask-low : (es : List ℕ) → ((e : ℕ) → List·Memᴰ e es → List·Memᴰ e ns) → maskOf ns es < 2 ^ length ns
+  pub mask-low : (es : List ℕ) → ((e : ℕ) → List·Memᴰ e es → List·Memᴰ e ns) → maskOf ns es < 2 ^ length ns
   mask-low [] h = pow-pos (length ns)
-  mask-low (e ∷ es) h =
-      let i = h e (List·Memᴰ·head refl) in
-      subst (λ (q : Place). withPlace (maskOf ns es) q < 2 ^ length ns) (sym (place-in e ns i))
-      (or-lt (length ns) (maskOf ns es) (2 ^ count (λ (n : ℕ). ltb n e) ns) (mask-low es (λ f m. h f (List·Memᴰ·tail m))) (pow-lt (at-place e rises i .1)))
+  mask-low (e ∷ es) h = with-low rises (maskOf ns es) e (h e (List·Memᴰ·head refl)) (mask-low es (λ f m. h f (List·Memᴰ·tail m)))
 
-  mask-has : (es : List ℕ) → ((e : ℕ) → List·Memᴰ e es → List·Memᴰ e ns) → (e : ℕ) → List·Memᴰ e ns
+  pub mask-has : (es : List ℕ) → ((e : ℕ) → List·Memᴰ e es → List·Memᴰ e ns) → (e : ℕ) → List·Memᴰ e ns
       → inMask (maskOf ns es) (placeOf ns e) ≡ mem e es
-  mask-has [] h e i = ap (inMask 0) (place-in e ns i) ∙ ap (λ (n : ℕ). eqb (n % 2) 1) (zero-div (2 ^ count (λ (n : ℕ). ltb n e) ns))
+  mask-has [] h e i = nothing-has ns e
   mask-has (x ∷ es) h e i =
       with-belt rises (maskOf ns es) x e (h x (List·Memᴰ·head refl)) i
       ∙ ap (λ (t : Bool). t || eqb e x) (mask-has es (λ f m. h f (List·Memᴰ·tail m)) e i)

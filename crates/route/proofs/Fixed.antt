@@ -1,9 +1,14 @@
 -- Masks over the named belts: which belts they fix, and whether a route has all that are required.
 --
+--   has-named           a belt whose place a mask has is a named belt
 --   fixed-mem           a belt is fixed exactly when the mask has its place
+--   nothing-has         the mask 0 fixes no belt
 --   fixed-belt          a fixed belt is a belt of the plan
 --   place-low           the place of a belt has a bit in a mask
 --   looked-up           what the array of places has for a belt is its place
+--   place-equal         two named belts have one place exactly when they are one
+--   with-low, with-belt a mask with a named belt in it is of named belts, and has that belt and those that it had
+--   masks-equal         masks that have the same named belts are equal
 --   joining t m q       the mask m, with the place q in it if t says so
 --   gathered ns required m es
 --                       the mask m with the places of those of the belts es that are required
@@ -33,8 +38,7 @@ use Rattle.plan.proofs.Rising.{Rises}
 use Rattle.plan.proofs.Naming.{named-in, named-rises}
 use Rattle.plan.proofs.Places.{at-place, place-at, place-in, place-is}
 use Rattle.plan.proofs.Reading.{belt-named, named-few}
-use Rattle.route.specs.Values.{inMask, fixedIn, namedPlaces}
-use Rattle.route.specs.Inner.{LowPlace, withPlace}
+use Rattle.route.specs.Values.{inMask, fixedIn, namedPlaces, LowPlace, withPlace}
 use Rattle.route.proofs.Bits.{or-power, bits-equal}
 
 -- ---- which belts a mask fixes
@@ -44,7 +48,7 @@ abbrev fixes : List ℕ → ℕ → ℕ → Bool
 fixes ns m e = inMask m (placeOf ns e)
 
 -- then it is one of them
-has-named : (ns : List ℕ) (m e : ℕ) → fixes ns m e ≡ true → List·Memᴰ e ns
+pub has-named : (ns : List ℕ) (m e : ℕ) → fixes ns m e ≡ true → List·Memᴰ e ns
 has-named ns m e h = mem-in ns (go (mem e ns) h)
   where
     go : (t : Bool) → inMask m (placeBy t (count (λ (n : ℕ). ltb n e) ns)) ≡ true → t ≡ true
@@ -55,6 +59,13 @@ pub fixed-mem : (ns : List ℕ) (m e : ℕ) → mem e (fixedIn ns m) ≡ inMask 
 fixed-mem ns m e =
     alike (mem e (fixedIn ns m)) (fixes ns m e) (λ k. keep-in (fixes ns m) ns (mem-in (fixedIn ns m) k) .1)
     (λ h. in-mem (fixedIn ns m) (in-keep (fixes ns m) ns (has-named ns m e h) h))
+
+pub nothing-has : (ns : List ℕ) (e : ℕ) → fixes ns 0 e ≡ false
+nothing-has ns e = go (mem e ns)
+  where
+    go : (t : Bool) → inMask 0 (placeBy t (count (λ (n : ℕ). ltb n e) ns)) ≡ false
+    go true = ap (λ (n : ℕ). eqb (n % 2) 1) (zero-div (2 ^ count (λ (n : ℕ). ltb n e) ns))
+    go false = refl
 
 pub looked-up : (b : List ℕ) {places : List ℕ} {q : Place} (e : ℕ) → places ≡ namedPlaces b → q ≡ placeIn places e → e < 2048
     → q ≡ placeOf (named (planOf b)) e
@@ -91,11 +102,16 @@ module _ {ns : List ℕ} (rises : Rises ns) where
   lower e = count (λ (n : ℕ). ltb n e) ns
 
   -- two named belts have one place exactly when they are one
-  place-equal : (e x : ℕ) → List·Memᴰ e ns → List·Memᴰ x ns → eqb (lower e) (lower x) ≡ eqb e x
+  pub place-equal : (e x : ℕ) → List·Memᴰ e ns → List·Memᴰ x ns → eqb (lower e) (lower x) ≡ eqb e x
   place-equal e x i j =
       alike (eqb (lower e) (lower x)) (eqb e x)
       (λ t. eq-eqb e x (sym (at-place e rises i .0) ∙ ap (λ (k : ℕ). getD ns k 0) (eqb-true (lower e) (lower x) t) ∙ at-place x rises j .0))
       (λ t. eq-eqb (lower e) (lower x) (ap lower (eqb-true e x t)))
+
+  pub with-low : (m x : ℕ) → List·Memᴰ x ns → m < 2 ^ length ns → withPlace m (placeOf ns x) < 2 ^ length ns
+  with-low m x j h =
+      subst (λ (q : Place). withPlace m q < 2 ^ length ns) (sym (place-in x ns j))
+      (or-lt (length ns) m (2 ^ lower x) h (pow-lt (at-place x rises j .1)))
 
   pub with-belt : (m x e : ℕ) → List·Memᴰ x ns → List·Memᴰ e ns → fixes ns (withPlace m (placeOf ns x)) e ≡ (fixes ns m e || eqb e x)
   with-belt m x e j i =
@@ -104,7 +120,7 @@ module _ {ns : List ℕ} (rises : Rises ns) where
       ∙ (λ k. inMask m (sym (place-in e ns i) k) || place-equal e x i j k)
 
   -- masks that have the same named belts are equal
-  masks-equal : (a c : ℕ) → a < 2 ^ length ns → c < 2 ^ length ns
+  pub masks-equal : (a c : ℕ) → a < 2 ^ length ns → c < 2 ^ length ns
       → ((e : ℕ) → List·Memᴰ e ns → fixes ns a e ≡ fixes ns c e) → a ≡ c
   masks-equal a c h k same =
       bits-equal (length ns) a c h k (λ j l.
@@ -124,10 +140,7 @@ module _ {ns : List ℕ} (rises : Rises ns) where
     next-low m x h = go (needed x) refl
       where
         go : (t : Bool) → needed x ≡ t → joining t m (placeOf ns x) < 2 ^ length ns
-        go true k =
-            let j = has-named ns required x k in
-            subst (λ (q : Place). withPlace m q < 2 ^ length ns) (sym (place-in x ns j))
-            (or-lt (length ns) m (2 ^ lower x) h (pow-lt (at-place x rises j .1)))
+        go true k = with-low m x (has-named ns required x k) h
         go false k = h
 
     next-has : (m x e : ℕ) → List·Memᴰ e ns → fixes ns (next m x) e ≡ (fixes ns m e || (needed e && eqb e x))
@@ -161,12 +174,8 @@ module _ {ns : List ℕ} (rises : Rises ns) where
         ∙ or-assoc (fixes ns m e) (needed e && eqb e x) (needed e && mem e es)
         ∙ ap (λ (q : Bool). fixes ns m e || q) (sym (and-or-distrib-left (needed e) (eqb e x) (mem e es)))
 
-    nothing-has : (e : ℕ) → List·Memᴰ e ns → fixes ns 0 e ≡ false
-    nothing-has e i =
-        ap (inMask 0) (place-in e ns i) ∙ ap (λ (n : ℕ). eqb (n % 2) 1) (zero-div (2 ^ lower e))
-
     from-nothing : (es : List ℕ) (e : ℕ) → List·Memᴰ e ns → fixes ns (gathered ns required 0 es) e ≡ (needed e && mem e es)
-    from-nothing es e i = gathered-has 0 es e i ∙ ap (λ (t : Bool). t || (needed e && mem e es)) (nothing-has e i)
+    from-nothing es e i = gathered-has 0 es e i ∙ ap (λ (t : Bool). t || (needed e && mem e es)) (nothing-has ns e)
 
     pub gathered-all : (es : List ℕ) → gathered ns required 0 es ≡ required → all (λ (e : ℕ). mem e es) (fixedIn ns required) ≡ true
     gathered-all es h =

@@ -1,5 +1,6 @@
 -- "Comes before" is a strict total order on the routes from s to t.
 --
+--   first-eq, first-ne of two numbers and a rest, the rest decides where the numbers are equal, and their order where they are not
 --   before-irrefl      no list comes before itself
 --   before-asym        of two lists at most one comes before the other
 --   before-trans       what comes before one that comes before a third comes before the third
@@ -10,11 +11,12 @@
 --   ends-claim         there is no route from s to t where s > t, and only the empty one where s = t (EndsClaim)
 --   no-longer          no route from s to t goes on where another ends
 --   order-claim        all this as it is claimed (OrderClaim)
+--   lower-known        which of two known Routes is lower at the first difference is told by the names that they hold
 --
 -- Assumes nothing.
 use mathlib.Core.Path.{_≡_, refl, sym, _∙_, ap, subst}
 use mathlib.Core.Logic.{_⊎_, inl, inr}
-use mathlib.Core.Bool.{Bool, true, false, _&&_, _||_, true≢false}
+use mathlib.Core.Bool.{Bool, true, false, _&&_, _||_, true≢false, or-false}
 use Prim.Native.Nat.{ℕ, _+_, _≤_, _<_}
 use mathlib.Core.List.{List, [], _∷_, _++_}
 use native.Mathlib.Omega.{arith}
@@ -22,19 +24,25 @@ use native.Mathlib.Nat.{eq-or-lt-of-le}
 use lib.ListN.{length}
 use lib.Dec.{eqb, ltb}
 use borrow.Author.Tests.{eqb-true, eqb-false, eq-eqb, ne-eqb, ltb-true, ltb-false, lt-ltb, le-ltb}
-use Rattle.plan.specs.Plan.{Belt, planOf}
+use Rattle.plan.specs.Plan.{Belt, planOf, namesOf}
 use Rattle.plan.specs.Reading.{Accepted}
 use Rattle.plan.proofs.Lists.{test, both, either, neither}
 use Rattle.plan.proofs.Reading.{belt-name}
+use Rattle.route.specs.declared.path.Route.{Route}
 use Rattle.route.specs.Routes.{IsRoute, cost, first, lower, before}
+use Rattle.route.specs.Values.{idsOf, Known, routeIn}
+use Rattle.route.specs.Inner.{lowerIds}
 use Rattle.route.specs.Claims.{OrderClaim, EndsClaim}
-use Rattle.route.proofs.ByName.{route-length}
+use Rattle.route.proofs.ByName.{route-length, known-names}
 
 -- ---- one number, and the rest
 
 module _ (m n : ℕ) (x : Bool) where
-  first-eq : m ≡ n → first m n x ≡ x
+  pub first-eq : m ≡ n → first m n x ≡ x
   first-eq e = λ i. le-ltb m n (omega arith) i || (eq-eqb m n e i && x)
+
+  pub first-ne : (m ≡ n → ⊥) → first m n x ≡ ltb m n
+  first-ne d = ap (λ (t : Bool). ltb m n || (t && x)) (ne-eqb m n d) ∙ or-false (ltb m n)
 
   first-lt : m < n → first m n x ≡ true
   first-lt h = ap (λ (t : Bool). t || (eqb m n && x)) (lt-ltb m n h)
@@ -210,3 +218,14 @@ order-claim b ok s t =
     go x y p q d (inl h) k = inl h
     go x y p q d (inr h) (inl k) = inr k
     go x y p q d (inr h) (inr k) = absurd (d (before-total ok s t x y p q h k))
+
+-- ---- routes as the code holds them
+
+lower-names : (a b : List Belt) → lower a b ≡ lowerIds (namesOf a) (namesOf b)
+lower-names [] [] = refl
+lower-names [] (f ∷ b) = refl
+lower-names (e ∷ a) [] = refl
+lower-names (e ∷ a) (f ∷ b) = ap (first (e .name) (f .name)) (lower-names a b)
+
+pub lower-known : {b : List ℕ} → Accepted b → (x y : Route) → Known b x → Known b y → lower (routeIn b x) (routeIn b y) ≡ lowerIds (idsOf x) (idsOf y)
+lower-known {b} ok x y h k = lower-names (routeIn b x) (routeIn b y) ∙ (λ i. lowerIds (known-names ok x h i) (known-names ok y k i))

@@ -3,11 +3,9 @@
 --   placed l i vs   l with vs from place i on
 --   Low r           a Route of at most 255 belts with names below 2,048, so that each can be looked up
 --   Nameable l      what literal l names can be looked up: a belt below 2,048, a mode from 1 to 10
+--   lowerIds es fs  `lower` of routes with the names es and fs
 --   contentRefusal p s t v
 --                   the first broken one of lines 11 to 14 (sheetBy), or 0, by what a sheet in the form says
--- Masks:
---   LowPlace q      place q has a bit in a mask
---   withPlace m q   the mask m with place q in it
 -- The relaxed route, found from t backwards:
 --   isRequired x e, isForbidden x e
 --                   belt e is required, and is forbidden, by the subproblem x
@@ -36,12 +34,9 @@ use Prim.Native.Nat.{ℕ, _+_, _^_, _≤_, _<_}
 use mathlib.Core.Bool.{Bool, true, false, not, _&&_, _||_}
 use mathlib.Core.Option.{Option, none, some}
 use mathlib.Core.List.{List, [], _∷_, _++_, List·Memᴰ}
-use lib.Bits.{bitOr}
 use lib.ListN.{length, getD, take, drop}
 use lib.Dec.{eqb, leb, ltb}
 use Rattle.plan.specs.declared.read.BeltId.{BeltId}
-use Rattle.plan.specs.declared.named.Place.{Place}
-use Rattle.plan.specs.declared.named.Place.the-variants.{At, Unnamed}
 use Rattle.plan.specs.Lists.{all, keep, mem}
 use Rattle.plan.specs.Plan.{Belt, Plan, planOf, namesOf, beltId}
 use Rattle.plan.specs.declared.read.Literal.{Literal}
@@ -50,13 +45,19 @@ use Rattle.route.specs.declared.path.Route.{Route}
 use Rattle.route.specs.declared.sheet.Sheet.{Sheet}
 use Rattle.route.specs.declared.relax.Fixings.{Fixings}
 use Rattle.route.specs.declared.relax.Way.{Way}
-use Rattle.route.specs.Routes.{connects, cost, costLimit, beltsByName}
+use Rattle.route.specs.Routes.{connects, cost, costLimit, first, beltsByName}
 use Rattle.route.specs.Permission.{passes, allMet, orElse}
 use Rattle.route.specs.Subproblems.{Subproblem, relaxed}
 use Rattle.route.specs.Values.{idsOf, subproblemIn}
 
 abbrev pub placed : List ℕ → ℕ → List ℕ → List ℕ
 placed l i vs = take i l ++ vs ++ drop (i + length vs) l
+
+abbrev pub lowerIds : List ℕ → List ℕ → Bool
+lowerIds [] [] = false
+lowerIds [] (f ∷ fs) = true
+lowerIds (e ∷ es) [] = false
+lowerIds (e ∷ es) (f ∷ fs) = first e f (lowerIds es fs)
 
 pub record Low (r : Route) : Type 0 where
   pub few : r .count ≤ 255
@@ -78,16 +79,6 @@ contentRefusal p s t v =
     (not (connects s t r))
     (not (eqb (cost r) (v .cost)))
     (not (allMet (p .rules) (passes r) (v .setting)))
-
--- ---- masks
-
-abbrev pub LowPlace : Place → Type 0
-LowPlace (At k) = k < 64
-LowPlace Unnamed = Unit {0}
-
-abbrev pub withPlace : ℕ → Place → ℕ
-withPlace m (At k) = bitOr m (2 ^ k)
-withPlace m Unnamed = m
 
 -- ---- the relaxed route
 

@@ -8,7 +8,9 @@
 --   sheetIn h        the Sheet that the bytes h read as
 --   bytesOf v        the bytes of a Sheet
 --   settingIn v      the lowest setting, if there is one, that an answer stands for
+--   LowPlace q       the place q has a bit in a mask
 --   inMask m q       a mask has the place q: bit k is for place k
+--   withPlace m q    the mask m with the place q in it
 --   fixedIn ns m     those of the named belts ns whose places a mask has, in rising index
 --   OfNamed b m      the mask m has no other places than those of the named belts of the plan b
 --   subproblemIn b f the subproblem of the plan b that the masks f stand for
@@ -21,6 +23,7 @@ use Prim.Native.Nat.{ℕ, _-_, _/_, _%_, _^_, _≤_, _<_}
 use mathlib.Core.Bool.{Bool, true, false}
 use mathlib.Core.Option.{Option, none, some}
 use mathlib.Core.List.{List, [], _++_, map, List·Memᴰ}
+use lib.Bits.{bitOr}
 use lib.ListN.{length, getD, take, replicate}
 use lib.Dec.{eqb}
 use Rattle.plan.specs.declared.read.BeltId.{BeltId}
@@ -75,6 +78,14 @@ settingIn Nothing = none
 abbrev pub inMask : ℕ → Place → Bool
 inMask m (At k) = eqb (m / 2 ^ k % 2) 1
 inMask m Unnamed = false
+
+abbrev pub LowPlace : Place → Type 0
+LowPlace (At k) = k < 64
+LowPlace Unnamed = Unit {0}
+
+abbrev pub withPlace : ℕ → Place → ℕ
+withPlace m (At k) = bitOr m (2 ^ k)
+withPlace m Unnamed = m
 
 abbrev pub fixedIn : List ℕ → ℕ → List ℕ
 fixedIn ns m = keep (λ (e : ℕ). inMask m (placeOf ns e)) ns

@@ -1,6 +1,6 @@
 // Routes of an accepted plan: which are permitted, and the sheets that record them.
 //
-//   path    a route's belts: whether they connect, and what they cost
+//   path    a route's belts: whether they connect, what they cost, and which of two routes comes before the other
 //   rules   whether every rule is met by a route under a setting of the modes
 //   modes   the lowest setting that meets every rule
 //   masks   sets of named belts
@@ -8,7 +8,7 @@
 //   sheet   route sheets, written and read
 //   check   the check of a sheet: lines 1 to 8 and 11 to 14 of the refusal table
 pub mod check;
-mod masks;
+pub mod masks;
 pub mod modes;
 pub mod path;
 pub mod relax;

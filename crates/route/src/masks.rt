@@ -1,8 +1,7 @@
 // Sets of named belts as masks: bit k stands for the belt at place k among the named belts (plan::named).
 use plan::named::Place;
 ghost use mathlib.Core.Path.{_≡_};
-ghost use Rattle.route.specs.Values.{inMask};
-ghost use Rattle.route.specs.Inner.{LowPlace, withPlace};
+ghost use Rattle.route.specs.Values.{inMask, LowPlace, withPlace};
 
 // Whether a mask has a place.
 pub fn has(mask: u64, place: Place) -> bool

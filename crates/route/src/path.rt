@@ -1,4 +1,5 @@
-// Routes: what is asked of one, and its belts: whether they are the plan's, whether they connect, and what they cost.
+// Routes: what is asked of one, and its belts: whether they are the plan's, whether they connect, what they cost,
+// and which of two comes before the other.
 use plan::read;
 use plan::read::BeltId;
 ghost use mathlib.Core.Path.{_≡_};
@@ -7,8 +8,9 @@ ghost use mathlib.Core.Bool.{not};
 ghost use Rattle.plan.specs.Lists.{all, mem, within};
 ghost use Rattle.plan.specs.Plan.{planOf, namesOf};
 ghost use Rattle.plan.specs.Reading.{Accepted};
-ghost use Rattle.route.specs.Routes.{wrongEnds, connects, cost, costLimit};
+ghost use Rattle.route.specs.Routes.{wrongEnds, connects, cost, costLimit, before};
 ghost use Rattle.route.specs.Values.{idsOf, Known, routeIn};
+ghost use Rattle.route.specs.Inner.{lowerIds};
 
 // What a route is asked or checked for: it leads from junction s to junction t.
 pub struct Trip {
@@ -94,4 +96,39 @@ pub fn cost(p: &[u8], route: Route) -> u64
         k += 1;
     }
     sum
+}
+
+// Whether at the first difference route a has the lower belt. Where one goes on and the other ends, the shorter.
+fn lower(a: Route, b: Route) -> bool
+    requires { ⌜ (a .count ≤ 255) × (b .count ≤ 255) ⌝ }
+    ensures { λ v. ⌜ v ≡ lowerIds (idsOf a) (idsOf b) ⌝ }
+{
+    let firsts = a.belts;
+    let others = b.belts;
+    let mut k = 0;
+    while k < a.count {
+        if k == b.count {
+            return false;
+        }
+        let first = firsts[k];
+        let other = others[k];
+        if first.0 != other.0 {
+            return first.0 < other.0;
+        }
+        k += 1;
+    }
+    k < b.count
+}
+
+// Whether route a comes before route b: it costs less, or as much and at the first difference its belt index is lower.
+pub fn before(p: &[u8], a: Route, b: Route) -> bool
+    requires { ⌜ Accepted (now p) × Known (now p) a × Known (now p) b ⌝ }
+    ensures { λ v. ⌜ v ≡ before (routeIn (now (p .entry)) a) (routeIn (now (p .entry)) b) ⌝ }
+{
+    let cost_a = cost(p, a);
+    let cost_b = cost(p, b);
+    if cost_a != cost_b {
+        return cost_a < cost_b;
+    }
+    lower(a, b)
 }

@@ -1,8 +1,7 @@
 -- `masks::has` meets its contract: a shift by the place brings its bit to the end. Assumes nothing.
 use mathlib.Core.Path.{subst, sym, ap}
 use borrow.Author.Needs.{needs}
-use Rattle.route.specs.Values.{inMask}
-use Rattle.route.specs.Inner.{LowPlace}
+use Rattle.route.specs.Values.{inMask, LowPlace}
 use Rattle.route.proofs.masks.has.Statement.{statement}
 use Rattle.route.proofs.masks.has.Tie as tie
 

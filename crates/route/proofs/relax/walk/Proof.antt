@@ -12,8 +12,7 @@ use Rattle.plan.specs.declared.read.BeltId.{BeltId}
 use Rattle.plan.specs.declared.named.Place.{Place}
 use Rattle.plan.specs.Plan.{planOf, named, beltId, placeOf}
 use Rattle.plan.proofs.Reading.{plan-sizes, belt-low}
-use Rattle.route.specs.Values.{inMask, relaxedAs}
-use Rattle.route.specs.Inner.{LowPlace}
+use Rattle.route.specs.Values.{inMask, relaxedAs, LowPlace}
 use Rattle.route.proofs.Fixed.{place-low, looked-up, joining}
 use Rattle.route.proofs.Walked.{gathering, Walked, Step, walked-start, walked-next, walked-whole, walked-short}
 use Rattle.route.proofs.relax.walk.Statement.{statement}

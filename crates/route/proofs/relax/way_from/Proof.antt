@@ -15,8 +15,8 @@ use Rattle.plan.specs.Reading.{Accepted, IsBelt, nextBelt, beltsFrom}
 use Rattle.plan.proofs.Reading.{leaving-from, belts-end, belts-next, first-belt-is, next-belt-is, belt-low}
 use Rattle.route.specs.declared.relax.Fixings.{Fixings}
 use Rattle.route.specs.declared.relax.Way.{Way}
-use Rattle.route.specs.Values.{inMask, subproblemIn}
-use Rattle.route.specs.Inner.{LowPlace, wayOver, preferred, noWay, wayBy}
+use Rattle.route.specs.Values.{inMask, subproblemIn, LowPlace}
+use Rattle.route.specs.Inner.{wayOver, preferred, noWay, wayBy}
 use Rattle.route.proofs.Fixed.{fixed-mem, place-low, looked-up}
 use Rattle.route.proofs.relax.way_from.Statement.{statement}
 use Rattle.route.proofs.relax.way_from.Tie as tie

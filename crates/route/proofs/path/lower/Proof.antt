@@ -1,0 +1,145 @@
+-- `path::lower` meets its contract: what is left of both routes decides as all of them does. Assumes nothing.
+use mathlib.Core.Path.{_≡_, refl, sym, _∙_}
+use mathlib.Core.Logic.{_⊎_, inl, inr}
+use mathlib.Core.Bool.{Bool, true, false}
+use Prim.Native.Nat.{ℕ, _+_, _-_, _≤_, _<_}
+use native.Mathlib.Omega.{arith}
+use borrow.Author.Needs.{needs}
+use borrow.Author.Tests.{ltb-true, ltb-false}
+use lib.ListN.{length, getD, drop}
+use lib.Dec.{ltb}
+use Rattle.plan.specs.Plan.{beltId}
+use Rattle.plan.proofs.Lists.{test}
+use Rattle.route.specs.declared.path.Route.{Route}
+use Rattle.route.specs.Routes.{first}
+use Rattle.route.specs.Values.{idsOf}
+use Rattle.route.specs.Inner.{lowerIds}
+use Rattle.route.proofs.Order.{first-eq, first-ne}
+use Rattle.route.proofs.Held.{places, ids-next, ids-end}
+use Rattle.route.proofs.path.lower.Statement.{statement}
+use Rattle.route.proofs.path.lower.Tie as tie
+
+-- the name of the belt at place k
+abbrev nameAt : Route → ℕ → ℕ
+nameAt r k = getD (r .belts) k (beltId 0) .0
+
+-- whether what is left of a from place k on is lower than what is left of b
+abbrev leftLower : Route → Route → ℕ → Bool
+leftLower a b k = lowerIds (drop k (idsOf a)) (drop k (idsOf b))
+
+-- both routes have places for their belts
+abbrev Fit : Route → Route → Type 0
+Fit a b = (a .count ≤ length (a .belts)) × (b .count ≤ length (b .belts))
+
+-- where both go on, their next belts decide, or else the rest
+both-on : (a b : Route) → Fit a b → (k : ℕ) → k < a .count → k < b .count
+    → leftLower a b k ≡ first (nameAt a k) (nameAt b k) (leftLower a b (k + 1))
+both-on a b fit k h l = λ i. lowerIds (ids-next a (fit .0) k h i) (ids-next b (fit .1) k l i)
+
+-- where only the first goes on
+first-on : (a b : Route) → Fit a b → (k : ℕ) → k < a .count → b .count ≤ k → leftLower a b k ≡ false
+first-on a b fit k h l = λ i. lowerIds (ids-next a (fit .0) k h i) (ids-end b (fit .1) k l i)
+
+-- where the first ends, it is whether the second goes on
+first-ends : (a b : Route) → Fit a b → (k : ℕ) → a .count ≤ k → leftLower a b k ≡ ltb k (b .count)
+first-ends a b fit k h = go (test (ltb k (b .count)))
+  where
+    go : (ltb k (b .count) ≡ true) ⊎ (ltb k (b .count) ≡ false) → leftLower a b k ≡ ltb k (b .count)
+    go (inl t) = (λ i. lowerIds (ids-end a (fit .0) k h i) (ids-next b (fit .1) k (ltb-true k (b .count) t) i)) ∙ sym t
+    go (inr t) = (λ i. lowerIds (ids-end a (fit .0) k h i) (ids-end b (fit .1) k (ltb-false k (b .count) t) i)) ∙ sym t
+
+abbrev Inv-loop : tie.InvT-loop
+Inv-loop a b firsts others k₀ k = Fit a b × (k ≤ b .count) × (leftLower a b k ≡ lowerIds (idsOf a) (idsOf b))
+
+abbrev μ-loop : tie.MeasureT-loop
+μ-loop a b firsts others k₀ k = a .count - k
+
+loop-holds : tie.Need-loop-holds Inv-loop μ-loop
+loop-holds c =
+    let start = c .before .before in
+    let size-a = places (start .args .a) (start .good .0 .1 .1 .1 .0 .1 .0 .1) in
+    let size-b = places (start .args .b) (start .good .1 .0 .1 .1 .1 .0 .1 .0 .1) in
+    ((omega (arith, start .pre .0), omega (arith, start .pre .1)), omega arith, refl)
+
+returns : tie.Need-returns Inv-loop μ-loop
+returns c =
+    let turn = c .before .before in
+    let at = turn .before .before in
+    let start = at .before .before .before in
+    sym (first-on (start .args .a) (start .args .b) (at .loop .inv .0) (at .loop .k) (turn .if1 .taken) (omega (arith, c .if2 .taken)))
+    ∙ at .loop .inv .2
+
+mul-first : tie.Need-mul-first Inv-loop μ-loop
+mul-first c = search needs
+
+array-copy-out-first : tie.Need-array-copy-out-first Inv-loop μ-loop
+array-copy-out-first c = search needs
+
+mul-other : tie.Need-mul-other Inv-loop μ-loop
+mul-other c = search needs
+
+array-copy-out-other : tie.Need-array-copy-out-other Inv-loop μ-loop
+array-copy-out-other c = search needs
+
+-- the second route goes on, too
+inside : (c : tie.Else2 Inv-loop μ-loop) → c .before .before .before .before .loop .k < c .before .before .before .before .before .before .before .args .b .count
+inside c = omega (arith, c .before .before .before .before .loop .inv .1, c .if2 .left)
+
+-- so the belts at this place decide, or else the rest
+decided : (c : tie.Else2 Inv-loop μ-loop)
+    → let at = c .before .before .before .before in
+    let a = at .before .before .before .args .a in
+    let b = at .before .before .before .args .b in
+    first (nameAt a (at .loop .k)) (nameAt b (at .loop .k)) (leftLower a b (at .loop .k + 1)) ≡ lowerIds (idsOf a) (idsOf b)
+decided c =
+    let at = c .before .before .before .before in
+    let start = at .before .before .before in
+    sym (both-on (start .args .a) (start .args .b) (at .loop .inv .0) (at .loop .k) (c .before .before .if1 .taken) (inside c)) ∙ at .loop .inv .2
+
+returns-2 : tie.Need-returns-2 Inv-loop μ-loop
+returns-2 c =
+    let into = c .before .before .before .before .before .before .before in
+    let at = into .before .before .before .before in
+    let a = at .before .before .before .args .a in
+    let b = at .before .before .before .args .b in
+    let k = at .loop .k in
+    sym (first-ne (nameAt a k) (nameAt b k) (leftLower a b (k + 1)) (c .before .before .if3 .taken)) ∙ decided into
+
+add-k : tie.Need-add-k Inv-loop μ-loop
+add-k c = search needs
+
+loop-less : tie.Need-loop-less Inv-loop μ-loop
+loop-less c = search needs
+
+loop-again : tie.Need-loop-again Inv-loop μ-loop
+loop-again c =
+    let into = c .before .before .before .before .before in
+    let at = into .before .before .before .before in
+    let a = at .before .before .before .args .a in
+    let b = at .before .before .before .args .b in
+    let k = at .loop .k in
+    (at .loop .inv .0, omega (arith, inside into), sym (first-eq (nameAt a k) (nameAt b k) (leftLower a b (k + 1)) (c .if3 .left)) ∙ decided into)
+
+returns-3 : tie.Need-returns-3 Inv-loop μ-loop
+returns-3 c =
+    let at = c .before .before .before in
+    let start = at .before .before .before in
+    sym (first-ends (start .args .a) (start .args .b) (at .loop .inv .0) (at .loop .k) (c .before .if1 .left)) ∙ at .loop .inv .2
+
+pub lower-spec : {M : Type 1} → statement M
+lower-spec =
+    tie.close
+    (tie.spec
+    Inv-loop
+    μ-loop
+    loop-holds
+    returns
+    mul-first
+    array-copy-out-first
+    mul-other
+    array-copy-out-other
+    returns-2
+    add-k
+    loop-less
+    loop-again
+    returns-3)
