@@ -1,0 +1,22 @@
+-- The claims of specs/Claims.antt hold, all of them. Assumes nothing.
+use Rattle.search.specs.Claims.{Claims}
+use Rattle.search.proofs.Coverage.{coverage-claim, bound-claim, any-choice-claim}
+use Rattle.search.proofs.Depth.{depth-claim}
+use Rattle.search.proofs.Uniqueness.{valid-claim}
+use Rattle.search.proofs.Refusing.{refused-claim, limits-claim, unchanged-claim}
+use Rattle.search.proofs.Answering.{ends-claim, right-claim, accepted-claim}
+
+pub claims : Claims
+claims = record {
+  refused = refused-claim;
+  limits = limits-claim;
+  ends = ends-claim;
+  unchanged = unchanged-claim;
+  accepted = accepted-claim;
+  right = right-claim;
+  any-choice = any-choice-claim;
+  coverage = coverage-claim;
+  bound = bound-claim;
+  depth = depth-claim;
+  valid = valid-claim;
+}

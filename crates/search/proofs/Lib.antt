@@ -1,0 +1,15 @@
+-- Laws, each file after those that it rests on; the claims are gathered in Claims.
+pub mod Branches
+pub mod Steps
+pub mod Weights
+pub mod Coverage
+pub mod Depth
+pub mod Counting
+pub mod Picks
+pub mod Holding
+pub mod Opening
+pub mod Uniqueness
+pub mod Refusing
+pub mod Answering
+pub mod Replies
+pub mod Claims

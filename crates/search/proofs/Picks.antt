@@ -1,0 +1,268 @@
+-- The picks: the code tells belts by their places among the named belts, and picks as the definition does.
+--
+--   find-here, find-past, find-over
+--                     the first place from k on that is kept and passes: it is k, or that of the places behind k
+--   busier-later, busier-first, busier-below
+--                     the one of two places with the higher count, and that it is below 48
+--   combined xs q o   the best q so far with the busiest o of the places left; combined-first, combined-next: it is the busiest of all
+--   else-at, else-none
+--                     a place that was looked for, or else another
+--   picks-lowest, picks-busiest, picks-on
+--                     what each pick gives by places is the place of what it gives by belts
+--   route-low         the belts of a known route can be looked up
+--   route-mask        a known route passes the belts whose places are gathered from it
+--
+-- The unfixed belts are those at the unfixed places, in the same order. So whatever is chosen among the ones by their order and their counts
+-- is chosen among the others at the same position: Told says of two choices that they are none and none, or a belt and its place.
+-- Assumes nothing.
+use mathlib.Core.Path.{_≡_, refl, sym, _∙_, ap, subst}
+use mathlib.Core.Bool.{Bool, true, false, not, _||_}
+use mathlib.Core.Option.{Option, none, some}
+use Prim.Native.Nat.{ℕ, zero, suc, _+_, _-_, _≤_, _<_}
+use mathlib.Core.List.{List, [], _∷_, map, head?, List·Memᴰ, List·Memᴰ·head, List·Memᴰ·tail}
+use native.Mathlib.Omega.{arith}
+use lib.ListN.{length, getD}
+use lib.Dec.{ltb}
+use borrow.Author.Tests.{lt-ltb, le-ltb, ltb-true, ltb-false}
+use Rattle.plan.specs.declared.named.Place.{Place}
+use Rattle.plan.specs.declared.named.Place.the-variants.{At, Unnamed}
+use Rattle.plan.specs.Lists.{kept, keep, mem, run, upto}
+use Rattle.plan.specs.Plan.{Belt, Plan, planOf, namesOf, named}
+use Rattle.plan.specs.Reading.{Accepted}
+use Rattle.plan.proofs.Lists.{keep-in, map-run, upto-in}
+use Rattle.plan.proofs.Counts.{keep-first, keep-rest}
+use Rattle.plan.proofs.Rising.{Rises}
+use Rattle.plan.proofs.Naming.{names-back, named-rises}
+use Rattle.plan.proofs.Reading.{belt-low}
+use Rattle.route.specs.declared.path.Route.{Route}
+use Rattle.route.specs.declared.relax.Fixings.{Fixings}
+use Rattle.route.specs.Permission.{passes, find, orElse}
+use Rattle.route.specs.Values.{idsOf, Known, routeIn, inMask, LowPlace, fixedIn, subproblemIn, namedPlaces}
+use Rattle.route.proofs.ByName.{passes-names, known-route}
+use Rattle.route.proofs.Fixed.{fixed-mem, place-low, looked-up}
+use Rattle.search.specs.Branching.{isFixed, unfixed, ruleCount, busier, busiest, otherwise, pickOf}
+use Rattle.search.specs.Values.{countsOf, pickedPlace}
+use Rattle.search.specs.Inner.{Low, gatheredIn, unfixedAt, unfixedPlaces, atPlace, Below, busierAt, moreAt, busiestAt}
+use Rattle.search.proofs.Counting.{stands, gathered-at, counts-at}
+
+-- ---- the first place from k on that is kept and passes
+
+module _ (f g : ℕ → Bool) (k n : ℕ) (l : k < n) where
+  -- k is kept
+  looked-at : f k ≡ true → (t : Bool) → g k ≡ t → find g (keep f (upto k n)) ≡ orElse t k (find g (keep f (upto (k + 1) n)))
+  looked-at h t q = ap (find g) (keep-first f k n l h) ∙ ap (λ (s : Bool). orElse s k (find g (keep f (upto (k + 1) n)))) q
+
+  pub find-here : f k ≡ true → g k ≡ true → find g (keep f (upto k n)) ≡ some k
+  find-here h q = looked-at h true q
+
+  pub find-past : f k ≡ true → g k ≡ false → find g (keep f (upto (k + 1) n)) ≡ find g (keep f (upto k n))
+  find-past h q = sym (looked-at h false q)
+
+  pub find-over : f k ≡ false → find g (keep f (upto (k + 1) n)) ≡ find g (keep f (upto k n))
+  find-over h = sym (ap (find g) (keep-rest f k n l h))
+
+-- ---- the busiest, place by place
+
+module _ (xs : List ℕ) where
+  -- the count at place k
+  abbrev at : ℕ → ℕ
+  at k = getD xs k 0
+
+  pub busier-later : (j k : ℕ) → at j < at k → busierAt xs (At j) k ≡ At k
+  busier-later j k h = ap (λ (t : Bool). elim t [ true ↦ At k | false ↦ At j ]) (lt-ltb (at j) (at k) h)
+
+  pub busier-first : (j k : ℕ) → at k ≤ at j → busierAt xs (At j) k ≡ At j
+  busier-first j k h = ap (λ (t : Bool). elim t [ true ↦ At k | false ↦ At j ]) (le-ltb (at j) (at k) h)
+
+  pub busier-below : (q : Place) (k : ℕ) → Below q → k < 48 → Below (busierAt xs q k)
+  busier-below Unnamed k h l = l
+  busier-below (At j) k h l = go (ltb (at j) (at k))
+    where
+      go : (t : Bool) → Below (elim t [ true ↦ At k | false ↦ At j ])
+      go true = l
+      go false = h
+
+  abbrev pub combined : Place → Option ℕ → Place
+  combined q none = q
+  combined q (some k) = busierAt xs q k
+
+  pub combined-first : (o : Option ℕ) → combined Unnamed o ≡ atPlace o
+  combined-first none = refl
+  combined-first (some k) = refl
+
+  pub combined-next : (q : Place) (k : ℕ) (o : Option ℕ) → combined q (moreAt xs k o) ≡ combined (busierAt xs q k) o
+  combined-next q k none = refl
+  combined-next Unnamed k (some j) = go (ltb (at k) (at j))
+    where
+      go : (t : Bool) → combined Unnamed (elim t [ true ↦ some j | false ↦ some k ]) ≡ elim t [ true ↦ At j | false ↦ At k ]
+      go true = refl
+      go false = refl
+  combined-next (At i) k (some j) = go (ltb (at k) (at j)) refl (ltb (at i) (at k)) refl
+    where
+      go : (s : Bool) → ltb (at k) (at j) ≡ s → (t : Bool) → ltb (at i) (at k) ≡ t
+          → combined (At i) (elim s [ true ↦ some j | false ↦ some k ]) ≡ busierAt xs (elim t [ true ↦ At k | false ↦ At i ]) j
+      go true h true l = busier-later i j (omega (arith, ltb-true (at k) (at j) h, ltb-true (at i) (at k) l)) ∙ sym (busier-later k j (ltb-true (at k) (at j) h))
+      go true h false l = refl
+      go false h true l = busier-later i k (ltb-true (at i) (at k) l) ∙ sym (busier-first k j (ltb-false (at k) (at j) h))
+      go false h false l =
+          busier-first i k (ltb-false (at i) (at k) l) ∙ sym (busier-first i j (omega (arith, ltb-false (at k) (at j) h, ltb-false (at i) (at k) l)))
+
+-- ---- a place that was looked for, or else another
+
+pub else-at : (o q : Option ℕ) (k : ℕ) → atPlace o ≡ At k → At k ≡ atPlace (otherwise o q)
+else-at none q k h = let z : _≡_ {A = ℕ} 0 1 = cc in absurd (omega arith)
+else-at (some j) q k h = sym h
+
+pub else-none : (o q : Option ℕ) → atPlace o ≡ Unnamed → atPlace q ≡ atPlace (otherwise o q)
+else-none none q h = refl
+else-none (some j) q h = let z : _≡_ {A = ℕ} 0 1 = cc in absurd (omega arith)
+
+-- ---- choices by belts and by places
+
+abbrev belt : List ℕ → ℕ → ℕ
+belt ns k = getD ns k 0
+
+data Told (ns : List ℕ) : Option ℕ → Option ℕ → Type 0 where
+  neither : Told ns none none
+  one : (k : ℕ) → k < length ns → Told ns (some (belt ns k)) (some k)
+
+-- places of belts of ns
+abbrev Inside : List ℕ → List ℕ → Type 0
+Inside ns ks = (k : ℕ) → List·Memᴰ k ks → k < length ns
+
+module _ {ns : List ℕ} where
+  told-place : Rises ns → {o q : Option ℕ} → Told ns o q → atPlace q ≡ pickedPlace ns o
+  told-place rises neither = refl
+  told-place rises (one k l) = sym (stands rises k l .1)
+
+  told-else : {o q u v : Option ℕ} → Told ns o q → Told ns u v → Told ns (otherwise o u) (otherwise q v)
+  told-else neither h = h
+  told-else (one k l) h = one k l
+
+  told-head : (ks : List ℕ) → Inside ns ks → Told ns (head? (map (belt ns) ks)) (head? ks)
+  told-head [] h = neither
+  told-head (k ∷ ks) h = one k (h k (List·Memᴰ·head refl))
+
+  told-find : (f g : ℕ → Bool) (ks : List ℕ) → Inside ns ks → ((k : ℕ) → k < length ns → f (belt ns k) ≡ g k)
+      → Told ns (find f (map (belt ns) ks)) (find g ks)
+  told-find f g [] h same = neither
+  told-find f g (k ∷ ks) h same =
+      let here = h k (List·Memᴰ·head refl) in
+      let rest = told-find f g ks (λ j m. h j (List·Memᴰ·tail m)) same in
+      subst (λ (t : Bool). Told ns (orElse t (belt ns k) (find f (map (belt ns) ks))) (orElse (g k) k (find g ks)))
+      (sym (same k here)) (go (g k) here rest)
+    where
+      go : (t : Bool) → k < length ns → {o q : Option ℕ} → Told ns o q → Told ns (orElse t (belt ns k) o) (orElse t k q)
+      go true l rest = one k l
+      go false l rest = rest
+
+  told-busiest : (p : Plan) (xs : List ℕ) (ks : List ℕ) → Inside ns ks → ((k : ℕ) → k < length ns → getD xs k 0 ≡ ruleCount p (belt ns k))
+      → Told ns (busiest p (map (belt ns) ks)) (busiestAt xs ks)
+  told-busiest p xs [] h same = neither
+  told-busiest p xs (k ∷ ks) h same = go (h k (List·Memᴰ·head refl)) (told-busiest p xs ks (λ j m. h j (List·Memᴰ·tail m)) same)
+    where
+      of-two : (t : Bool) (j : ℕ) → k < length ns → j < length ns
+          → Told ns (elim t [ true ↦ some (belt ns j) | false ↦ some (belt ns k) ]) (elim t [ true ↦ some j | false ↦ some k ])
+      of-two true j l u = one j u
+      of-two false j l u = one k l
+
+      go : k < length ns → {o q : Option ℕ} → Told ns o q → Told ns (busier p (belt ns k) o) (moreAt xs k q)
+      go l neither = one k l
+      go l (one j u) =
+          subst (λ (t : Bool). Told ns (busier p (belt ns k) (some (belt ns j))) (elim t [ true ↦ some j | false ↦ some k ]))
+          (λ i. ltb (sym (same k l) i) (sym (same j u) i)) (of-two (ltb (ruleCount p (belt ns k)) (ruleCount p (belt ns j))) j l u)
+
+-- ---- the unfixed belts are those at the unfixed places
+
+module _ (ns : List ℕ) where
+  by-place : ns ≡ map (belt ns) (upto 0 (length ns))
+  by-place =
+      let e : length ns ≡ length ns - 0 = omega arith in
+      map-run (belt ns) 0 (length ns) 0 ns refl (λ i l. let z : i ≡ 0 + i = omega arith in ap (belt ns) z) ∙ ap (λ (n : ℕ). map (belt ns) (run 0 n)) e
+
+  keep-belts : (f g : ℕ → Bool) (ks : List ℕ) → Inside ns ks → ((k : ℕ) → k < length ns → f (belt ns k) ≡ g k)
+      → keep f (map (belt ns) ks) ≡ map (belt ns) (keep g ks)
+  keep-belts f g [] h same = refl
+  keep-belts f g (k ∷ ks) h same =
+      ap (λ (t : Bool). kept t (belt ns k) (keep f (map (belt ns) ks))) (same k (h k (List·Memᴰ·head refl)))
+      ∙ go (g k) (keep-belts f g ks (λ j m. h j (List·Memᴰ·tail m)) same)
+    where
+      go : (t : Bool) → keep f (map (belt ns) ks) ≡ map (belt ns) (keep g ks)
+          → kept t (belt ns k) (keep f (map (belt ns) ks)) ≡ map (belt ns) (kept t k (keep g ks))
+      go true e = ap (λ (es : List ℕ). belt ns k ∷ es) e
+      go false e = e
+
+  all-inside : Inside ns (upto 0 (length ns))
+  all-inside k m = upto-in 0 (length ns) k m .1
+
+  free-inside : (f : Fixings) → Inside ns (unfixedPlaces f (length ns))
+  free-inside f k m = all-inside k (keep-in (unfixedAt f) (upto 0 (length ns)) m .0)
+
+  fixed-at : Rises ns → (m k : ℕ) → k < length ns → mem (belt ns k) (fixedIn ns m) ≡ inMask m (At k)
+  fixed-at rises m k l = fixed-mem ns m (belt ns k) ∙ ap (inMask m) (stands rises k l .1)
+
+module _ (b : List ℕ) (f : Fixings) where
+  abbrev ns : List ℕ
+  ns = named (planOf b)
+
+  abbrev free : List ℕ
+  free = unfixedPlaces f (length ns)
+
+  rises : Rises ns
+  rises = named-rises b
+
+  free-belts : unfixed (planOf b) (subproblemIn b f) ≡ map (belt ns) free
+  free-belts =
+      let loose : ℕ → Bool = λ e. not (isFixed (subproblemIn b f) e) in
+      ap (keep loose) (by-place ns)
+      ∙ keep-belts ns loose (unfixedAt f) (upto 0 (length ns)) (all-inside ns)
+      (λ k l i. not (fixed-at ns rises (f .required) k l i || fixed-at ns rises (f .forbidden) k l i))
+
+  told-lowest : Told ns (head? (unfixed (planOf b) (subproblemIn b f))) (head? free)
+  told-lowest = subst (λ (es : List ℕ). Told ns (head? es) (head? free)) (sym free-belts) (told-head free (free-inside ns f))
+
+  module _ (r : List Belt) where
+    pub picks-lowest : (k : ℕ) → k ≡ 0 → atPlace (head? free) ≡ pickedPlace ns (pickOf k (planOf b) (subproblemIn b f) r)
+    picks-lowest zero h = told-place rises told-lowest
+    picks-lowest (suc k) h = absurd (omega arith)
+
+    pub picks-busiest : (k : ℕ) → k ≡ 1 → atPlace (busiestAt (countsOf b .rules) free) ≡ pickedPlace ns (pickOf k (planOf b) (subproblemIn b f) r)
+    picks-busiest zero h = absurd (omega arith)
+    picks-busiest (suc zero) h =
+        let xs = countsOf b .rules in
+        told-place rises
+        (subst (λ (es : List ℕ). Told ns (busiest (planOf b) es) (busiestAt xs free)) (sym free-belts)
+        (told-busiest (planOf b) xs free (free-inside ns f) (counts-at b)))
+    picks-busiest (suc (suc k)) h = absurd (omega arith)
+
+    -- `on` tells by places what r passes
+    pub picks-on : (k : ℕ) → (k ≡ 0 → ⊥) → (k ≡ 1 → ⊥) → (on : ℕ → Bool) → ((j : ℕ) → j < length ns → passes r (getD ns j 0) ≡ on j)
+        → atPlace (otherwise (find on free) (head? free)) ≡ pickedPlace ns (pickOf k (planOf b) (subproblemIn b f) r)
+    picks-on zero d u on same = absurd (d refl)
+    picks-on (suc zero) d u on same = absurd (u refl)
+    picks-on (suc (suc k)) d u on same =
+        told-place rises
+        (told-else
+        (subst (λ (es : List ℕ). Told ns (find (passes r) es) (find on free)) (sym free-belts) (told-find (passes r) on free (free-inside ns f) same))
+        told-lowest)
+
+-- ---- a known route
+
+module _ {b : List ℕ} (ok : Accepted b) {r : Route} (known : Known b r) where
+  belts-low : (e : ℕ) → List·Memᴰ e (idsOf r) → e < 2048
+  belts-low e m = belt-low ok e (known .belts e m) .2
+
+  pub route-low : {places : List ℕ} → places ≡ namedPlaces b → Low places r
+  route-low all = record {
+    few = known .few;
+    low = λ e m. (belts-low e m, subst LowPlace (sym (looked-up b e all refl (belts-low e m))) (place-low ok e));
+  }
+
+  pub route-mask : {places : List ℕ} → places ≡ namedPlaces b → (k : ℕ) → k < length (named (planOf b))
+      → passes (routeIn b r) (getD (named (planOf b)) k 0) ≡ inMask (gatheredIn places 0 (idsOf r)) (At k)
+  route-mask all k l =
+      let e = getD (named (planOf b)) k 0 in
+      passes-names (routeIn b r) e
+      ∙ ap (λ (es : List Belt). mem e (namesOf es)) (known-route ok r known)
+      ∙ ap (mem e) (names-back b (idsOf r))
+      ∙ sym (gathered-at (named-rises b) k l all (idsOf r) belts-low)

@@ -1,0 +1,147 @@
+-- What the planner replies: its numbers and the out buffer are those of the outcome. The one idea: each answer of the code belongs to one
+-- outcome (the sheet of a best route, an ending of the run, a broken line), and the request comes to that outcome.
+--
+--   Told v before after o
+--                       the numbers v, and the buffer before and after, are those of the outcome o
+--   written-best        the sheet of the best route of a search that found it
+--   found-held          a run that ends with a route holds one
+--   turn-ended, turn-found
+--                       what a run comes to, by its ending
+--   plan-refused, refused-8, refused-9, refused-10, none-refused
+--                       the number of the first broken line: the plan's own, and with an accepted plan that of lines 8 to 10, or 0
+--   outcome-by          what the request comes to, by that number
+--   refused-told        where a line is broken its number is the answer, and the buffer is as it was
+--
+-- Assumes nothing.
+use mathlib.Core.Path.{_≡_, refl, sym, _∙_, ap, subst}
+use mathlib.Core.Bool.{Bool, true, false}
+use mathlib.Core.Option.{some}
+use Prim.Native.Nat.{ℕ, zero, suc, _≤_, _<_}
+use mathlib.Core.List.{List, [], _∷_, _++_, map}
+use native.Mathlib.Omega.{arith}
+use lib.ListN.{length, drop}
+use borrow.Author.Tests.{lt-ltb, le-ltb}
+use Rattle.plan.specs.Plan.{Belt, planOf}
+use Rattle.plan.specs.Refusals.{Line, planLines, firstBroken, refusal}
+use Rattle.plan.specs.Reading.{Accepted}
+use Rattle.plan.proofs.First.{front-first, on-broken, on-unbroken, past, passed}
+use Rattle.route.specs.declared.path.Route.{Route}
+use Rattle.route.specs.Routes.{wrongEnds, cost}
+use Rattle.route.specs.Sheets.{sheetOf}
+use Rattle.route.specs.Refusals.{Case, onPlan, broken8}
+use Rattle.route.specs.Values.{idsOf, Known, routeIn}
+use Rattle.route.proofs.ByName.{known-names}
+use Rattle.route.proofs.Checked.{ends-wrong, ends-fine}
+use Rattle.search.specs.declared.state.Search.{Search}
+use Rattle.search.specs.declared.state.Stepped.{Stepped}
+use Rattle.search.specs.declared.state.Ending.{Ending}
+use Rattle.search.specs.declared.state.Ending.the-variants.{Found}
+use Rattle.search.specs.declared.query.Query.{Query}
+use Rattle.search.specs.Search.{Turn, settingOf, run}
+use Rattle.search.specs.Answers.{Request, onCheck, wrongQuery, broken9, broken10, searchRefusal, Outcome, route, orZero, endingOf, ended, problemIn, unlessRefused, outcome, Reply, reply, replyTo, outAfter}
+use Rattle.search.specs.Values.{bestIn, turnIn, requestOf}
+use Rattle.search.specs.Inner.{bestOf}
+use Rattle.search.proofs.Steps.{run-found}
+
+-- the numbers v, and the buffer before and after, are those of the outcome o
+abbrev pub Told : Reply → List ℕ → List ℕ → Outcome → Type 0
+Told v before after o = (v ≡ replyTo o) × (after ≡ outAfter o before)
+
+-- ---- the sheet of the best route
+
+-- c, σ and size are the sheet's cost, setting and length
+pub written-best : {b : List ℕ} → Accepted b → (v : Search) → Known b (v .best) → (c σ size : ℕ) (before after : List ℕ)
+    → c ≡ cost (routeIn b (v .best)) → σ ≡ orZero (settingOf (planOf b) (routeIn b (v .best)))
+    → size ≡ length (sheetOf (idsOf (v .best)) c σ) → after ≡ sheetOf (idsOf (v .best)) c σ ++ drop size before
+    → Told (reply 0 (v .opened) size) before after (bestOf b v)
+written-best {b} ok v k c σ size before after ec eσ es ea =
+    let ids = idsOf (v .best) in
+    let same : route ids c σ (v .opened) ≡ bestOf b v = λ i. route (sym (known-names ok (v .best) k) i) (ec i) (eσ i) (v .opened) in
+    subst (Told (reply 0 (v .opened) size) before after) same
+    (ap (reply 0 (v .opened)) es, ea ∙ ap (λ (n : ℕ). sheetOf ids c σ ++ drop n before) es)
+
+-- ---- the ending of a run
+
+held : (b : List ℕ) (found : Bool) (best : Route) (r : List Belt) → bestIn b found best ≡ some r → found ≡ true
+held b true best r e = refl
+held b false best r e = let z : _≡_ {A = ℕ} 0 1 = cc in absurd (omega arith)
+
+module _ (b : List ℕ) (q : Query) (v : Stepped) (same : turnIn b v ≡ run (problemIn b q) (q .budget)) where
+  found-held : v .ending ≡ Found → v .search .found ≡ true
+  found-held e =
+      let (r, h) = run-found (problemIn b q) (q .budget) (sym (ap (λ (x : Turn). x .ending) same) ∙ e) in
+      held b (v .search .found) (v .search .best) r (ap (λ (x : Turn). x .state .best) same ∙ h)
+
+  pub turn-ended : (out : List ℕ) (x : Ending) → v .ending ≡ x
+      → endingOf (planOf b) (v .search .opened) (bestIn b (v .search .found) (v .search .best)) x ≡ unlessRefused 0 (requestOf b q out)
+  turn-ended out x e =
+      ap (endingOf (planOf b) (v .search .opened) (bestIn b (v .search .found) (v .search .best))) (sym e) ∙ ap (ended (planOf b)) same
+
+  pub turn-found : (out : List ℕ) → v .ending ≡ Found → bestOf b (v .search) ≡ unlessRefused 0 (requestOf b q out)
+  turn-found out e =
+      ap (λ (t : Bool). endingOf (planOf b) (v .search .opened) (bestIn b t (v .search .best)) Found) (sym (found-held e)) ∙ turn-ended out Found e
+
+-- ---- the first broken line
+
+-- lines 1 to 7, and 8, 9 and 10, as lines about requests
+abbrev front : List (Line Request)
+front = map onCheck (map onPlan planLines)
+
+abbrev line8 : Line Request
+line8 = onCheck (record { number = 8; broken = broken8 })
+
+abbrev line9 : Line Request
+line9 = record { number = 9; broken = broken9 }
+
+abbrev line10 : Line Request
+line10 = record { number = 10; broken = broken10 }
+
+abbrev case : Request → Case
+case k = record { plan = k .plan; s = k .query .trip .s; t = k .query .trip .t; sheet = [] }
+
+pub plan-refused : (k : Request) → (refusal (k .plan) ≡ 0 → ⊥) → searchRefusal k ≡ refusal (k .plan)
+unfolding refusal searchRefusal
+plan-refused k h = front-first (line8 ∷ line9 ∷ line10 ∷ []) k front h
+
+module _ (k : Request) (ok : Accepted (k .plan)) where
+  unbroken : firstBroken planLines (k .plan) ≡ 0
+  unfolding refusal
+  unbroken = ok .unrefused
+
+  behind : searchRefusal k ≡ firstBroken (line8 ∷ line9 ∷ line10 ∷ []) k
+  unfolding searchRefusal
+  behind = past front (line8 ∷ line9 ∷ line10 ∷ []) k (passed front k refl unbroken)
+
+  pub refused-8 : wrongEnds (planOf (k .plan)) (k .query .trip .s) (k .query .trip .t) ≡ true → searchRefusal k ≡ 8
+  refused-8 e = behind ∙ on-broken line8 (line9 ∷ line10 ∷ []) k (ends-wrong (case k) e)
+
+  module _ (ends : wrongEnds (planOf (k .plan)) (k .query .trip .s) (k .query .trip .t) ≡ false) where
+    past-8 : searchRefusal k ≡ firstBroken (line9 ∷ line10 ∷ []) k
+    past-8 = behind ∙ on-unbroken line8 (line9 ∷ line10 ∷ []) k (ends-fine (case k) ends)
+
+    pub refused-9 : wrongQuery (k .query) ≡ true → searchRefusal k ≡ 9
+    unfolding broken9
+    refused-9 e = past-8 ∙ on-broken line9 (line10 ∷ []) k e
+
+    module _ (asked : wrongQuery (k .query) ≡ false) where
+      past-9 : searchRefusal k ≡ firstBroken (line10 ∷ []) k
+      unfolding broken9
+      past-9 = past-8 ∙ on-unbroken line9 (line10 ∷ []) k asked
+
+      pub refused-10 : k .room < 3072 → searchRefusal k ≡ 10
+      unfolding broken10
+      refused-10 h = past-9 ∙ on-broken line10 [] k (lt-ltb (k .room) 3072 h)
+
+      pub none-refused : 3072 ≤ k .room → searchRefusal k ≡ 0
+      unfolding broken10
+      none-refused h = past-9 ∙ on-unbroken line10 [] k (le-ltb (k .room) 3072 h)
+
+-- ---- what the request comes to
+
+pub outcome-by : (k : Request) (n : ℕ) → searchRefusal k ≡ n → unlessRefused n k ≡ outcome k
+unfolding outcome
+outcome-by k n e = ap (λ (m : ℕ). unlessRefused m k) (sym e)
+
+pub refused-told : (k : Request) (n : ℕ) (v : Reply) (out : List ℕ) → (n ≡ 0 → ⊥) → searchRefusal k ≡ n → v ≡ reply n 0 0 → Told v out out (outcome k)
+refused-told k zero v out h e w = absurd (h refl)
+refused-told k (suc n) v out h e w = subst (Told v out out) (outcome-by k (suc n) e) (w, refl)

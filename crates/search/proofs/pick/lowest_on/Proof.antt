@@ -1,0 +1,64 @@
+-- `pick::lowest_on` meets its contract: the one on the route, if there is one, else the lowest. Assumes nothing.
+use mathlib.Core.Path.{_≡_, sym, _∙_, ap}
+use Prim.Native.Nat.{ℕ}
+use mathlib.Core.Option.{Option}
+use mathlib.Core.List.{head?}
+use borrow.Author.Needs.{needs}
+use Rattle.plan.specs.declared.named.Place.the-variants.{At}
+use Rattle.route.specs.Permission.{find}
+use Rattle.route.specs.Values.{idsOf, inMask}
+use Rattle.search.specs.Inner.{gatheredIn, unfixedPlaces, atPlace}
+use Rattle.search.proofs.Picks.{else-at, else-none}
+use Rattle.search.proofs.pick.lowest_on.Statement.{statement}
+use Rattle.search.proofs.pick.lowest_on.Tie as tie
+
+on-route-requires : tie.Need-on-route-requires
+on-route-requires c κs = search needs
+
+lowest-in-requires : tie.Need-lowest-in-requires
+lowest-in-requires c κs = search needs
+
+enum-known-on : tie.Need-enum-known-on
+enum-known-on c = search needs
+
+enum-told : tie.Need-enum-told
+enum-told c = search needs
+
+lowest-requires : tie.Need-lowest-requires
+lowest-requires c κs = search needs
+
+-- the unfixed belt that was looked for on the route
+abbrev on : tie.After-lowest-in → Option ℕ
+on c =
+    let a = c .before .before .args in
+    find (λ (k : ℕ). inMask (gatheredIn (a .places .now) 0 (idsOf (a .route))) (At k)) (unfixedPlaces (a .fixings) (a .named))
+
+found : (c : tie.After-lowest-in) → c .lowest-in .result ≡ atPlace (on c)
+found c =
+    let a = c .before .before .args in
+    c .lowest-in .ensures
+    ∙ ap (λ (m : ℕ). atPlace (find (λ (k : ℕ). inMask m (At k)) (unfixedPlaces (a .fixings) (a .named)))) (c .before .on-route .ensures)
+
+returns : tie.Need-returns
+returns c =
+    let looked = c .before .before .before in
+    let a = looked .before .before .args in
+    else-at (on looked) (head? (unfixedPlaces (a .fixings) (a .named))) (c .before .on .given .0 .0) (sym (found looked) ∙ c .before .on .given .1)
+
+returns-2 : tie.Need-returns-2
+returns-2 c =
+    let looked = c .before .before .before in
+    let a = looked .before .before .args in
+    c .lowest .ensures ∙ else-none (on looked) (head? (unfixedPlaces (a .fixings) (a .named))) (sym (found looked) ∙ c .before .enum-told .given .1)
+
+pub lowest-on-spec : {M : Type 1} → statement M
+lowest-on-spec =
+    tie.close
+    (tie.spec
+    on-route-requires
+    lowest-in-requires
+    enum-known-on
+    enum-told
+    lowest-requires
+    returns
+    returns-2)

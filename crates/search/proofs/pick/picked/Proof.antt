@@ -1,0 +1,68 @@
+-- `pick::picked` meets its contract: what is picked by places is picked by belts (Picks). Assumes nothing.
+use mathlib.Core.Path.{_≡_, _∙_, ap}
+use Prim.Native.Nat.{ℕ, _≤_}
+use mathlib.Core.Bool.{Bool}
+use mathlib.Core.List.{head?}
+use native.Mathlib.Omega.{arith}
+use lib.ListN.{length}
+use Rattle.plan.specs.declared.named.Place.the-variants.{At}
+use Rattle.plan.specs.Plan.{planOf, named}
+use Rattle.plan.proofs.Reading.{named-few}
+use Rattle.route.specs.Permission.{find}
+use Rattle.route.specs.Values.{idsOf, routeIn, inMask}
+use Rattle.search.specs.declared.pick.Counts.{Counts}
+use Rattle.search.specs.Branching.{otherwise}
+use Rattle.search.specs.Inner.{gatheredIn, unfixedPlaces, atPlace, busiestAt}
+use Rattle.search.proofs.Picks.{picks-lowest, picks-busiest, picks-on, route-low, route-mask}
+use Rattle.search.proofs.pick.picked.Statement.{statement}
+use Rattle.search.proofs.pick.picked.Tie as tie
+
+-- there are as many named belts as the counts say
+size : (c : tie.Start) → c .args .counts .named ≡ length (named (planOf (c .args .p .now)))
+size c = ap (λ (v : Counts). v .named) (c .pre .2)
+
+few : (c : tie.Start) → c .args .counts .named ≤ 48
+few c = omega (arith, size c, named-few (c .pre .0))
+
+lowest-requires : tie.Need-lowest-requires
+lowest-requires c κs = few (c .before .before)
+
+returns : tie.Need-returns
+returns c =
+    let start = c .before .before .before in
+    let a = start .args in
+    let p = a .p .now in
+    c .lowest .ensures
+    ∙ ap (λ (n : ℕ). atPlace (head? (unfixedPlaces (a .fixings) n))) (size start)
+    ∙ picks-lowest p (a .fixings) (routeIn p (a .route)) (a .pick) (c .before .if1 .taken)
+
+busiest-requires : tie.Need-busiest-requires
+busiest-requires c κs = few (c .before .before .before)
+
+returns-2 : tie.Need-returns-2
+returns-2 c =
+    let start = c .before .before .before .before in
+    let a = start .args in
+    let p = a .p .now in
+    c .busiest .ensures
+    ∙ ap (λ (v : Counts). atPlace (busiestAt (v .rules) (unfixedPlaces (a .fixings) (v .named)))) (start .pre .2)
+    ∙ picks-busiest p (a .fixings) (routeIn p (a .route)) (a .pick) (c .before .if2 .taken)
+
+lowest-on-requires : tie.Need-lowest-on-requires
+lowest-on-requires c κs = let start = c .before .before .before in (few start, route-low (start .pre .0) (start .pre .3) (start .pre .1))
+
+returns-3 : tie.Need-returns-3
+returns-3 c =
+    let start = c .before .before .before .before in
+    let a = start .args in
+    let p = a .p .now in
+    let on : ℕ → Bool = λ k. inMask (gatheredIn (a .places .now) 0 (idsOf (a .route))) (At k) in
+    c .lowest-on .ensures
+    ∙ ap (λ (n : ℕ). atPlace (otherwise (find on (unfixedPlaces (a .fixings) n)) (head? (unfixedPlaces (a .fixings) n)))) (size start)
+    ∙ picks-on p (a .fixings) (routeIn p (a .route)) (a .pick) (c .before .before .if1 .left) (c .before .if2 .left) on
+    (route-mask (start .pre .0) (start .pre .3) (start .pre .1))
+
+pub picked-spec : {M : Type 1} → statement M
+picked-spec =
+    tie.close
+    (tie.spec lowest-requires returns busiest-requires returns-2 lowest-on-requires returns-3)

@@ -1,0 +1,138 @@
+-- What the planner answers to a query, whole: the refusals, the ending with its count, and every byte of the out buffer (paper 01, "The
+-- search", "Route sheet and check", "Causes of refusal").
+--
+--   Request             a plan's bytes, a query, and the length of the lent out buffer
+--   onCheck l           a line about the cases of the sheet check that is about plan, s and t alone, as a line about requests
+--   broken9, broken10   the line is broken by the request
+--   searchLines         lines 1 to 10, in the order in which they count
+--   searchRefusal k     the number of the first broken one, or 0
+--   Outcome             a refusal; or a route's belts, cost and setting, with the count; or none, or spent, with the count
+--   outcome k           WHAT THE REQUEST COMES TO
+--   Reply, replyTo o    the same in numbers, without what stands in the buffer: that of the refusal, or 0 for a route, 100 for none and 101
+--                       for spent; the count; the length of the sheet. What a refusal lacks is 0
+--   replyOf v           the numbers of each case of the code's answer
+--   outAfter o out      the lent buffer afterwards: on a route the sheet, and behind it what stood there; else every byte as it was
+--
+-- `Query` and `Answer` are declared by the code (src/query.rt, src/entry.rt). Assumes nothing.
+use Prim.Native.Nat.{ℕ, zero, suc}
+use mathlib.Core.Bool.{Bool, not, _&&_}
+use mathlib.Core.Option.{Option, none, some}
+use mathlib.Core.List.{List, [], _∷_, _++_, map}
+use lib.ListN.{length, drop}
+use lib.Dec.{leb, ltb}
+use Rattle.plan.specs.Plan.{Belt, Plan, planOf, namesOf}
+use Rattle.plan.specs.Refusals.{Line, firstBroken}
+use Rattle.route.specs.Routes.{cost}
+use Rattle.route.specs.Sheets.{sheetOf}
+use Rattle.route.specs.Refusals.{Case, queryLines}
+use Rattle.search.specs.declared.query.Query.{Query}
+use Rattle.search.specs.declared.entry.Answer.{Answer}
+use Rattle.search.specs.declared.entry.Answer.the-variants.{Found, Nothing, Spent, WrongSize, WrongHeader, WrongRecord, WrongChain, BackwardBelt, WrongLiteral, ManyNamed, WrongEnds, WrongQuery, ShortBuffer}
+use Rattle.search.specs.declared.state.Ending.{Ending}
+use Rattle.search.specs.declared.state.Ending.the-variants as ending
+use Rattle.search.specs.Search.{Problem, Turn, settingOf, run, problemOf}
+
+pub record Request : Type 0 where
+  pub plan : List ℕ
+  pub query : Query
+  pub room : ℕ
+
+-- ---- refusals
+
+-- lines 1 to 8 do not look at the sheet
+abbrev pub onCheck : Line Case → Line Request
+onCheck l = record {
+  number = l .number;
+  broken = λ (k : Request). l .broken (record { plan = k .plan; s = k .query .trip .s; t = k .query .trip .t; sheet = [] });
+}
+
+-- 9: pick over 2, order over 1, budget 0
+abbrev pub wrongQuery : Query → Bool
+wrongQuery q = not (leb (q .pick) 2 && leb (q .order) 1 && leb 1 (q .budget))
+
+unfoldable pub broken9 : Request → Bool
+broken9 k = wrongQuery (k .query)
+
+-- 10: out buffer under 3,072 bytes
+unfoldable pub broken10 : Request → Bool
+broken10 k = ltb (k .room) 3072
+
+abbrev pub searchLines : List (Line Request)
+searchLines = map onCheck queryLines ++ record { number = 9; broken = broken9 } ∷ record { number = 10; broken = broken10 } ∷ []
+
+unfoldable pub searchRefusal : Request → ℕ
+searchRefusal k = firstBroken searchLines k
+
+-- ---- outcomes
+
+pub data Outcome : Type 0 where
+  refused : ℕ → Outcome
+  route : (belts : List ℕ) (cost setting opened : ℕ) → Outcome
+  nothing : (opened : ℕ) → Outcome
+  spent : (opened : ℕ) → Outcome
+
+-- a best is permitted: some setting works
+abbrev pub orZero : Option ℕ → ℕ
+orZero none = 0
+orZero (some σ) = σ
+
+abbrev pub bestRoute : Plan → ℕ → Option (List Belt) → Outcome
+bestRoute p opened none = nothing opened
+bestRoute p opened (some r) = route (namesOf r) (cost r) (orZero (settingOf p r)) opened
+
+-- spent hands out no route. A run does not end in "goes on"
+abbrev pub endingOf : Plan → ℕ → Option (List Belt) → Ending → Outcome
+endingOf p opened best ending.GoesOn = spent opened
+endingOf p opened best ending.Spent = spent opened
+endingOf p opened best ending.Nothing = nothing opened
+endingOf p opened best ending.Found = bestRoute p opened best
+
+abbrev pub ended : Plan → Turn → Outcome
+ended p v = endingOf p (v .state .opened) (v .state .best) (v .ending)
+
+abbrev pub problemIn : List ℕ → Query → Problem
+problemIn b q = problemOf (planOf b) (q .trip .s) (q .trip .t) (q .pick) (q .order)
+
+abbrev pub unlessRefused : ℕ → Request → Outcome
+unlessRefused zero k = ended (planOf (k .plan)) (run (problemIn (k .plan) (k .query)) (k .query .budget))
+unlessRefused (suc n) k = refused (suc n)
+
+unfoldable pub outcome : Request → Outcome
+outcome k = unlessRefused (searchRefusal k) k
+
+-- ---- answers
+
+pub record Reply : Type 0 where
+  pub number : ℕ
+  pub opened : ℕ
+  pub length : ℕ
+
+abbrev pub reply : ℕ → ℕ → ℕ → Reply
+reply n opened size = record { number = n; opened = opened; length = size }
+
+abbrev pub replyTo : Outcome → Reply
+replyTo (refused n) = reply n 0 0
+replyTo (route es c σ n) = reply 0 n (length (sheetOf es c σ))
+replyTo (nothing n) = reply 100 n 0
+replyTo (spent n) = reply 101 n 0
+
+abbrev pub replyOf : Answer → Reply
+replyOf (Found opened size) = reply 0 opened size
+replyOf (Nothing opened) = reply 100 opened 0
+replyOf (Spent opened) = reply 101 opened 0
+replyOf WrongSize = reply 1 0 0
+replyOf WrongHeader = reply 2 0 0
+replyOf WrongRecord = reply 3 0 0
+replyOf WrongChain = reply 4 0 0
+replyOf BackwardBelt = reply 5 0 0
+replyOf WrongLiteral = reply 6 0 0
+replyOf ManyNamed = reply 7 0 0
+replyOf WrongEnds = reply 8 0 0
+replyOf WrongQuery = reply 9 0 0
+replyOf ShortBuffer = reply 10 0 0
+
+abbrev pub outAfter : Outcome → List ℕ → List ℕ
+outAfter (route es c σ n) out = sheetOf es c σ ++ drop (length (sheetOf es c σ)) out
+outAfter (refused n) out = out
+outAfter (nothing n) out = out
+outAfter (spent n) out = out

@@ -1,0 +1,202 @@
+-- What is claimed of the search, as types; proofs/Claims.antt proves them all. The contract of `entry::search` says that its answer and
+-- every byte of the out buffer are what `outcome` gives; these say what that means. All are about ALL lists of bytes and ALL numbers.
+--
+-- The demands:
+--   RefusedClaim        DEMAND 1: the answer is refusal n exactly when n is the number of the first broken line
+--   LimitsClaim         DEMAND 1: the published limits (Limits, in positive words) hold exactly when nothing is refused
+--   EndsClaim           DEMAND 1: then the request comes to a route, to none or to spent, by a run that has ended
+--   UnchangedClaim      DEMAND 1: on a refusal, and on none and spent too, every byte of the out buffer is as it was
+--   AcceptedClaim       DEMAND 2, last clause: what a search writes is a sheet that the check accepts, and behind it no byte differs
+--   RightClaim          DEMAND 3: a request that is not refused comes to what is Right:
+--     Cheapest b s t es c σ
+--                       the belts es are a route from s to t that is permitted, costs c, has the lowest setting σ, and comes before every
+--                       other permitted route
+--     WaitsAt q n       the written search without a budget has a state number n, and a subproblem waits in it
+--     Right             (1) to (6), each in its own field
+-- Laws that later changes rest on:
+--   Explores q          what is asked of a problem: its plan is that of accepted bytes, and the picking rule picks an unfixed named belt
+--                       while there is one
+--   RunRight q budget   (1) to (6) for such a problem: said of the run, and proved for any choice and any picking rule
+--   AnyChoiceClaim      every such problem's run is right, whatever the budget
+--   CoverageClaim       in every state of the sequence every permitted route is the best, comes after it, or is admitted by a waiting
+--                       subproblem; for any choice of the next subproblem and any picking rule
+--   BoundClaim          such a sequence has no state number 2^(k+1) - 1 in which one waits
+--   DepthClaim          where the newest is taken next, at most k + 1 wait, and the i-th oldest fixes at least i - 1 belts
+--   ValidClaim          a Search holds nothing beside its state
+--
+-- Assumes nothing.
+use mathlib.Core.Path.{_≡_}
+use mathlib.Core.Bool.{true, false}
+use mathlib.Core.Logic.{_⊎_, _↔_}
+use mathlib.Core.Option.{Option, none, some}
+use Prim.Native.Nat.{ℕ, _+_, _-_, _^_, _≤_, _<_}
+use mathlib.Core.List.{List, [], _∷_, _++_, List·Memᴰ}
+use lib.ListN.{length, getD, take, drop}
+use Rattle.plan.specs.Plan.{Belt, Plan, planOf, namesOf, named}
+use Rattle.plan.specs.Limits.{Limits}
+use Rattle.plan.specs.Claims.{Unbroken, FirstIn}
+use Rattle.plan.specs.Reading.{Accepted, Bytes}
+use Rattle.route.specs.Routes.{IsRoute, cost, before}
+use Rattle.route.specs.Permission.{passes, Permitted, lowest}
+use Rattle.route.specs.Subproblems.{Subproblem, admits}
+use Rattle.route.specs.Sheets.{sheetOf}
+use Rattle.route.specs.Refusals.{sheetRefusal}
+use Rattle.route.specs.Values.{caseOf}
+use Rattle.search.specs.declared.query.Query.{Query}
+use Rattle.search.specs.declared.state.Search.{Search}
+use Rattle.search.specs.declared.state.Ending.the-variants.{GoesOn, Found, Nothing, Spent}
+use Rattle.search.specs.Branching.{unfixed, fixedCount}
+use Rattle.search.specs.Search.{Problem, State, free, newest, stateAt, run}
+use Rattle.search.specs.Answers.{Request, searchLines, searchRefusal, Outcome, refused, route, nothing, spent, outcome, problemIn, outAfter}
+use Rattle.search.specs.Values.{stateIn, Valid}
+
+-- ---- demand 1
+
+abbrev pub RefusedClaim : Type 0
+RefusedClaim = (k : Request) (n : ℕ) → (outcome k ≡ refused n) ↔ FirstIn searchLines k n
+
+pub record InLimits (k : Request) : Type 0 where
+  pub plan : Limits (k .plan)
+  pub s-from : 1 ≤ k .query .trip .s
+  pub s-to : k .query .trip .s ≤ planOf (k .plan) .junctions
+  pub t-from : 1 ≤ k .query .trip .t
+  pub t-to : k .query .trip .t ≤ planOf (k .plan) .junctions
+  pub pick : k .query .pick ≤ 2
+  pub order : k .query .order ≤ 1
+  pub budget : 1 ≤ k .query .budget
+  pub room : 3072 ≤ k .room
+
+abbrev pub LimitsClaim : Type 0
+LimitsClaim = (k : Request) → InLimits k ↔ (searchRefusal k ≡ 0)
+
+-- a route, none, or spent
+abbrev pub Answered : Outcome → Type 0
+Answered o = ((es : List ℕ) × (c : ℕ) × (σ : ℕ) × (n : ℕ) × (o ≡ route es c σ n)) ⊎ (((n : ℕ) × (o ≡ nothing n)) ⊎ ((n : ℕ) × (o ≡ spent n)))
+
+abbrev pub EndsClaim : Type 0
+EndsClaim = (k : Request) → searchRefusal k ≡ 0
+    → Answered (outcome k) × (run (problemIn (k .plan) (k .query)) (k .query .budget) .ending ≡ GoesOn → ⊥)
+
+abbrev pub UnchangedClaim : Type 0
+UnchangedClaim = (k : Request) (out : List ℕ) → ((es : List ℕ) (c σ n : ℕ) → outcome k ≡ route es c σ n → ⊥) → outAfter (outcome k) out ≡ out
+
+-- ---- demand 2, last clause
+
+abbrev pub AcceptedClaim : Type 0
+AcceptedClaim = (k : Request) → Bytes (k .plan) → (out : List ℕ) → length out ≡ k .room → (es : List ℕ) (c σ n : ℕ) → outcome k ≡ route es c σ n
+    → (length (sheetOf es c σ) ≤ length out)
+    × (take (length (sheetOf es c σ)) (outAfter (outcome k) out) ≡ sheetOf es c σ)
+    × (drop (length (sheetOf es c σ)) (outAfter (outcome k) out) ≡ drop (length (sheetOf es c σ)) out)
+    × (sheetRefusal (caseOf (k .plan) (k .query .trip) (take (length (sheetOf es c σ)) (outAfter (outcome k) out))) ≡ 0)
+
+-- ---- demand 3
+
+abbrev pub IsPermitted : Plan → ℕ → ℕ → List Belt → Type 0
+IsPermitted p s t r = IsRoute p s t r × Permitted (p .rules) (p .modes) r
+
+pub record Cheapest (p : Plan) (s t : ℕ) (es : List ℕ) (c σ : ℕ) : Type 0 where
+  pub belts : List Belt
+  pub names : namesOf belts ≡ es
+  pub permitted : IsPermitted p s t belts
+  pub costs : cost belts ≡ c
+  pub setting : lowest (p .rules) (p .modes) (passes belts) ≡ some σ
+  pub first : (r : List Belt) → IsPermitted p s t r → (r ≡ belts → ⊥) → before belts r ≡ true
+
+abbrev pub WaitsAt : Problem → ℕ → Type 0
+WaitsAt q n = (st : State) × (stateAt q n ≡ some st) × (st .waiting ≡ [] → ⊥)
+
+abbrev pub openedOf : Outcome → ℕ
+openedOf (refused n) = 0
+openedOf (route es c σ n) = n
+openedOf (nothing n) = n
+openedOf (spent n) = n
+
+abbrev pub withBudget : Request → ℕ → Request
+withBudget k budget = record {
+  plan = k .plan;
+  query = record { trip = k .query .trip; pick = k .query .pick; order = k .query .order; budget = budget };
+  room = k .room;
+}
+
+abbrev pub IsSpent : Outcome → Type 0
+IsSpent o = (n : ℕ) × (o ≡ spent n)
+
+pub record Right (k : Request) : Type 0 where
+  -- (1) a route found is permitted, its cost and its lowest setting are right, and it comes before every other permitted route
+  pub found : (es : List ℕ) (c σ n : ℕ) → outcome k ≡ route es c σ n
+      → Cheapest (planOf (k .plan)) (k .query .trip .s) (k .query .trip .t) es c σ
+  -- (2) none only if no route is permitted
+  pub none-permitted : (n : ℕ) → outcome k ≡ nothing n
+      → (r : List Belt) → IsPermitted (planOf (k .plan)) (k .query .trip .s) (k .query .trip .t) r → ⊥
+  -- (3) spent exactly when the written search has opened as many subproblems as the budget and at least one waits
+  pub spent-when : IsSpent (outcome k) ↔ WaitsAt (problemIn (k .plan) (k .query)) (k .query .budget)
+  -- (4) never with a budget of 2^(k+1) - 1 or more
+  pub never-spent : 2 ^ (length (named (planOf (k .plan))) + 1) - 1 ≤ k .query .budget → IsSpent (outcome k) → ⊥
+  -- (5) the count is the number that the written search opened: its state of that number has that count, and is the first in which nothing
+  -- waits, or, if spent, that of the budget
+  pub counted : (st : State) × (stateAt (problemIn (k .plan) (k .query)) (openedOf (outcome k)) ≡ some st)
+      × (st .opened ≡ openedOf (outcome k)) × ((IsSpent (outcome k) → ⊥) → st .waiting ≡ []) × (IsSpent (outcome k) → openedOf (outcome k) ≡ k .query .budget)
+  -- (6) a larger budget ends likewise with the same route, setting and count, or none and count
+  pub larger : (IsSpent (outcome k) → ⊥) → (budget : ℕ) → k .query .budget ≤ budget → outcome (withBudget k budget) ≡ outcome k
+
+abbrev pub RightClaim : Type 0
+RightClaim = (k : Request) → searchRefusal k ≡ 0 → Right k
+
+-- ---- laws for later changes
+
+pub record Explores (q : Problem) : Type 0 where
+  pub bytes : List ℕ
+  pub accepted : Accepted bytes
+  pub plan-is : q .plan ≡ planOf bytes
+  -- what is picked is an unfixed named belt
+  pub picks : (x : Subproblem) (r : List Belt) (e : ℕ) → q .pick x r ≡ some e → List·Memᴰ e (unfixed (q .plan) x)
+  -- and one is picked while there is one
+  pub picks-one : (x : Subproblem) (r : List Belt) → q .pick x r ≡ none → unfixed (q .plan) x ≡ []
+
+pub record RunRight (q : Problem) (budget : ℕ) : Type 0 where
+  pub ends : run q budget .ending ≡ GoesOn → ⊥
+  pub found : run q budget .ending ≡ Found → (r : List Belt) × (run q budget .state .best ≡ some r) × IsPermitted (q .plan) (q .s) (q .t) r
+      × ((x : List Belt) → IsPermitted (q .plan) (q .s) (q .t) x → (x ≡ r → ⊥) → before r x ≡ true)
+  pub none-permitted : run q budget .ending ≡ Nothing → (r : List Belt) → IsPermitted (q .plan) (q .s) (q .t) r → ⊥
+  pub spent-when : (run q budget .ending ≡ Spent) ↔ WaitsAt q budget
+  pub never-spent : 2 ^ (length (named (q .plan)) + 1) - 1 ≤ budget → run q budget .ending ≡ Spent → ⊥
+  pub counted : stateAt q (run q budget .state .opened) ≡ some (run q budget .state)
+  pub complete : (run q budget .ending ≡ Spent → ⊥) → run q budget .state .waiting ≡ []
+  pub spent-at : run q budget .ending ≡ Spent → run q budget .state .opened ≡ budget
+  pub larger : (run q budget .ending ≡ Spent → ⊥) → (more : ℕ) → budget ≤ more → run q more ≡ run q budget
+
+abbrev pub AnyChoiceClaim : Type 0
+AnyChoiceClaim = (q : Problem) → Explores q → (budget : ℕ) → RunRight q budget
+
+abbrev pub Covers : State → List Belt → Type 0
+Covers st r = (st .best ≡ some r) ⊎ (((b : List Belt) × (st .best ≡ some b) × (before b r ≡ true)) ⊎ ((x : Subproblem) × List·Memᴰ x (st .waiting) × (admits x r ≡ true)))
+
+abbrev pub CoverageClaim : Type 0
+CoverageClaim = (q : Problem) → Explores q → (n : ℕ) (st : State) → stateAt q n ≡ some st
+    → (r : List Belt) → IsPermitted (q .plan) (q .s) (q .t) r → Covers st r
+
+abbrev pub BoundClaim : Type 0
+BoundClaim = (q : Problem) → Explores q → (n : ℕ) → WaitsAt q n → n < 2 ^ (length (named (q .plan)) + 1) - 1
+
+abbrev pub DepthClaim : Type 0
+DepthClaim = (q : Problem) → Explores q → ((xs : List Subproblem) → q .choose xs ≡ 0) → (n : ℕ) (st : State) → stateAt q n ≡ some st
+    → (length (st .waiting) ≤ length (named (q .plan)) + 1)
+    × ((i j : ℕ) → 1 ≤ i → i + j ≡ length (st .waiting) → i - 1 ≤ fixedCount (q .plan) (getD (st .waiting) j free))
+
+abbrev pub ValidClaim : Type 0
+ValidClaim = (b : List ℕ) → Accepted b → (v w : Search) → length (v .waiting) ≡ 49 → length (w .waiting) ≡ 49 → Valid b v → Valid b w
+    → stateIn b v ≡ stateIn b w → v ≡ w
+
+-- all of them
+pub record Claims : Type 0 where
+  pub refused : RefusedClaim
+  pub limits : LimitsClaim
+  pub ends : EndsClaim
+  pub unchanged : UnchangedClaim
+  pub accepted : AcceptedClaim
+  pub right : RightClaim
+  pub any-choice : AnyChoiceClaim
+  pub coverage : CoverageClaim
+  pub bound : BoundClaim
+  pub depth : DepthClaim
+  pub valid : ValidClaim

@@ -1,0 +1,163 @@
+-- The written search (paper 01, "The search"): its states, its steps, the sequence of its states without a budget, and its run with one.
+--
+--   Problem             what a search goes by: the plan, s and t, the order of children, the belt that is picked, and which of the waiting
+--                       subproblems is taken next. That of a query is `problemOf`; the laws are about any picking rule that picks an
+--                       unfixed named belt, and any choice of the next subproblem
+--   State               the subproblems that wait, newest first (the paper's pile), how many have been opened, and the best route so far
+--   begun               the first state: the subproblem that fixes nothing waits, nothing is opened
+--   improves r o        route r comes before the best, o, or none is held
+--   branched, tested, compared, considered q x st ..
+--                       steps 6 and 5, 4, 3 and 3, on the subproblem x that was taken, where st is the state with x taken off and counted: to
+--                       drop x is to go on with st. Each takes what it tests as its last argument
+--   takeAt n x xs       the n-th of the subproblems x ∷ xs, counted from 0, or the last, and the others
+--   openNext q st x xs  the state after one of the subproblems x ∷ xs that wait in st was opened: steps 3 to 6
+--   next q st           the same, and none where nothing waits
+--   stateAt q n         THE SEQUENCE WITHOUT A BUDGET: its state number n, after n openings, if it goes on as long
+--   Turn             what a step hands back: the state, changed, and its ending, or that it goes on
+--   step q budget st    ONE STEP: 1, the pile is empty; 2, the budget is spent; else 3 to 6
+--   runs q budget n st  at most n steps from st, until one ends
+--   run q budget        THE RUN TO ITS ENDING: each step opens one or ends, so budget + 1 steps are enough (Claims.antt: it never says that
+--                       it goes on)
+--
+-- `Ending` is declared by the code (src/state.rt). Assumes nothing.
+use Prim.Native.Nat.{ℕ, zero, suc}
+use mathlib.Core.Bool.{Bool, true, false}
+use mathlib.Core.Option.{Option, none, some}
+use mathlib.Core.List.{List, [], _∷_, _++_}
+use lib.Dec.{eqb}
+use Rattle.plan.specs.Plan.{Belt, Plan}
+use Rattle.route.specs.Routes.{before}
+use Rattle.route.specs.Permission.{passes, lowest}
+use Rattle.route.specs.Subproblems.{Subproblem, relaxed}
+use Rattle.search.specs.declared.state.Ending.{Ending}
+use Rattle.search.specs.declared.state.Ending.the-variants.{GoesOn, Found, Nothing, Spent}
+use Rattle.search.specs.Branching.{children, pickOf}
+
+pub record Problem : Type 0 where
+  pub plan : Plan
+  pub s : ℕ
+  pub t : ℕ
+  pub order : ℕ
+  -- the belt picked, of a subproblem and its relaxed route; none where no named belt is unfixed
+  pub pick : Subproblem → List Belt → Option ℕ
+  -- the place of the subproblem that is taken next, counted from the newest
+  pub choose : List Subproblem → ℕ
+
+pub record State : Type 0 where
+  pub waiting : List Subproblem
+  pub opened : ℕ
+  pub best : Option (List Belt)
+
+abbrev pub free : Subproblem
+free = record { required = []; forbidden = [] }
+
+abbrev pub begun : State
+begun = record { waiting = free ∷ []; opened = 0; best = none }
+
+-- ---- steps 3 to 6
+
+-- 5: no named belt unfixed: drop. 6: both children wait
+abbrev pub branched : Problem → Subproblem → State → Option ℕ → State
+branched q x st none = st
+branched q x st (some e) = record { waiting = children (q .order) (q .plan) x e ++ st .waiting; opened = st .opened; best = st .best }
+
+-- 4: the relaxed route is permitted, that is, some setting works
+abbrev pub tested : Problem → Subproblem → State → List Belt → Option ℕ → State
+tested q x st r (some σ) = record { waiting = st .waiting; opened = st .opened; best = some r }
+tested q x st r none = branched q x st (q .pick x r)
+
+abbrev pub settingOf : Plan → List Belt → Option ℕ
+settingOf p r = lowest (p .rules) (p .modes) (passes r)
+
+-- 3: a best is held and the relaxed route does not come before it: drop
+abbrev pub compared : Problem → Subproblem → State → List Belt → Bool → State
+compared q x st r false = st
+compared q x st r true = tested q x st r (settingOf (q .plan) r)
+
+abbrev pub improves : List Belt → Option (List Belt) → Bool
+improves r none = true
+improves r (some best) = before r best
+
+-- 3: no relaxed route: drop
+abbrev pub considered : Problem → Subproblem → State → Option (List Belt) → State
+considered q x st none = st
+considered q x st (some r) = compared q x st r (improves r (st .best))
+
+-- x is taken off, the others wait, and the count is one higher
+abbrev pub opening : Problem → State → Subproblem → List Subproblem → State
+opening q st x others =
+    considered q x (record { waiting = others; opened = suc (st .opened); best = st .best }) (relaxed (q .plan) (q .s) (q .t) x)
+
+-- ---- the subproblem that is taken
+
+abbrev pub under : Subproblem → Subproblem × List Subproblem → Subproblem × List Subproblem
+under x taken = (taken .0, x ∷ taken .1)
+
+abbrev pub takeAt : ℕ → Subproblem → List Subproblem → Subproblem × List Subproblem
+takeAt zero x xs = (x, xs)
+takeAt (suc n) x [] = (x, [])
+takeAt (suc n) x (y ∷ ys) = under x (takeAt n y ys)
+
+abbrev pub openTaken : Problem → State → Subproblem × List Subproblem → State
+openTaken q st taken = opening q st (taken .0) (taken .1)
+
+abbrev pub openNext : Problem → State → Subproblem → List Subproblem → State
+openNext q st x xs = openTaken q st (takeAt (q .choose (x ∷ xs)) x xs)
+
+-- ---- without a budget
+
+abbrev pub nextOf : Problem → State → List Subproblem → Option State
+nextOf q st [] = none
+nextOf q st (x ∷ xs) = some (openNext q st x xs)
+
+abbrev pub next : Problem → Option State → Option State
+next q none = none
+next q (some st) = nextOf q st (st .waiting)
+
+abbrev pub stateAt : Problem → ℕ → Option State
+stateAt q zero = some begun
+stateAt q (suc n) = next q (stateAt q n)
+
+-- ---- with a budget
+
+pub record Turn : Type 0 where
+  pub state : State
+  pub ending : Ending
+
+-- 1: end, with the best route if one is held, else none
+abbrev pub atEnd : Option (List Belt) → Ending
+atEnd none = Nothing
+atEnd (some r) = Found
+
+-- 2: end, spent
+abbrev pub budgeted : Problem → State → Subproblem → List Subproblem → Bool → Turn
+budgeted q st x xs true = record { state = st; ending = Spent }
+budgeted q st x xs false = record { state = openNext q st x xs; ending = GoesOn }
+
+abbrev pub stepOf : Problem → ℕ → State → List Subproblem → Turn
+stepOf q budget st [] = record { state = st; ending = atEnd (st .best) }
+stepOf q budget st (x ∷ xs) = budgeted q st x xs (eqb (st .opened) budget)
+
+abbrev pub step : Problem → ℕ → State → Turn
+step q budget st = stepOf q budget st (st .waiting)
+
+abbrev pub onward : (State → Turn) → State → Ending → Turn
+onward f st GoesOn = f st
+onward f st Found = record { state = st; ending = Found }
+onward f st Nothing = record { state = st; ending = Nothing }
+onward f st Spent = record { state = st; ending = Spent }
+
+abbrev pub runs : Problem → ℕ → ℕ → State → Turn
+runs q budget zero st = record { state = st; ending = GoesOn }
+runs q budget (suc n) st = onward (λ (at : State). runs q budget n at) (step q budget st .state) (step q budget st .ending)
+
+abbrev pub run : Problem → ℕ → Turn
+run q budget = runs q budget (suc budget) begun
+
+-- ---- the search of a query
+
+abbrev pub newest : List Subproblem → ℕ
+newest xs = 0
+
+abbrev pub problemOf : Plan → ℕ → ℕ → ℕ → ℕ → Problem
+problemOf p s t pick order = record { plan = p; s = s; t = t; order = order; pick = pickOf pick p; choose = newest }

@@ -1,0 +1,87 @@
+-- What the values that the code hands about mean. `Query`, `Search`, `Stepped` and `Counts` are declared by the code.
+--
+--   countsOf b          how many named belts the plan b has, and in how many rules each of them is, the rest of the array 0
+--   pickedPlace ns o    the place of the belt picked, among the named belts ns; no place where none is
+--   firstSearch         a Search at its beginning
+--   waitingIn b xs n    the subproblems of the plan b that the first n masks of the array xs stand for, the last of them first: the newest
+--                       stands last in the array
+--   stateIn b v         the state that a Search stands for
+--   turnIn b v          what a step handed back stands for
+--   Deep p xs           of the waiting subproblems each fixes at least as many named belts as there are older ones
+--   Valid b v           a Search of the plan b: its masks are over the named belts, each waiting subproblem fixes enough of them, the best
+--                       is of belts of the plan, and what is not in use is 0. So equal states are equal values (Claims.antt)
+--   requestOf b q out   the request of a call
+--
+-- Assumes nothing.
+use mathlib.Core.Path.{_≡_}
+use Prim.Native.Nat.{ℕ, zero, suc, _-_, _≤_}
+use mathlib.Core.Bool.{Bool, true, false}
+use mathlib.Core.Option.{Option, none, some}
+use mathlib.Core.List.{List, [], _∷_, _++_, map}
+use lib.ListN.{length, getD, replicate}
+use Rattle.plan.specs.declared.named.Place.{Place}
+use Rattle.plan.specs.declared.named.Place.the-variants.{Unnamed}
+use Rattle.plan.specs.Plan.{Belt, Plan, planOf, named, placeOf}
+use Rattle.route.specs.declared.path.Route.{Route}
+use Rattle.route.specs.declared.relax.Fixings.{Fixings}
+use Rattle.route.specs.Subproblems.{Subproblem}
+use Rattle.route.specs.Values.{idsOf, packed, Known, routeIn, OfNamed, subproblemIn}
+use Rattle.search.specs.declared.query.Query.{Query}
+use Rattle.search.specs.declared.pick.Counts.{Counts}
+use Rattle.search.specs.declared.state.Search.{Search}
+use Rattle.search.specs.declared.state.Stepped.{Stepped}
+use Rattle.search.specs.Branching.{fixedCount, ruleCount}
+use Rattle.search.specs.Search.{State, Turn}
+use Rattle.search.specs.Answers.{Request}
+
+-- ---- picks
+
+abbrev pub countsOf : List ℕ → Counts
+countsOf b = record {
+  named = length (named (planOf b));
+  rules = map (ruleCount (planOf b)) (named (planOf b)) ++ replicate (48 - length (named (planOf b))) 0;
+}
+
+abbrev pub pickedPlace : List ℕ → Option ℕ → Place
+pickedPlace ns none = Unnamed
+pickedPlace ns (some e) = placeOf ns e
+
+-- ---- searches
+
+abbrev pub noFixings : Fixings
+noFixings = record { required = 0; forbidden = 0 }
+
+abbrev pub firstSearch : Search
+firstSearch = record { waiting = replicate 49 noFixings; count = 1; opened = 0; best = packed []; found = false }
+
+abbrev pub waitingIn : List ℕ → List Fixings → ℕ → List Subproblem
+waitingIn b xs zero = []
+waitingIn b xs (suc n) = subproblemIn b (getD xs n noFixings) ∷ waitingIn b xs n
+
+abbrev pub bestIn : List ℕ → Bool → Route → Option (List Belt)
+bestIn b true r = some (routeIn b r)
+bestIn b false r = none
+
+abbrev pub stateIn : List ℕ → Search → State
+stateIn b v = record { waiting = waitingIn b (v .waiting) (v .count); opened = v .opened; best = bestIn b (v .found) (v .best) }
+
+abbrev pub turnIn : List ℕ → Stepped → Turn
+turnIn b v = record { state = stateIn b (v .search); ending = v .ending }
+
+abbrev pub Deep : Plan → List Subproblem → Type 0
+Deep p [] = Unit {0}
+Deep p (x ∷ older) = (length older ≤ fixedCount p x) × Deep p older
+
+pub record Valid (b : List ℕ) (v : Search) : Type 0 where
+  pub required : (i : ℕ) → OfNamed b (getD (v .waiting) i noFixings .required)
+  pub forbidden : (i : ℕ) → OfNamed b (getD (v .waiting) i noFixings .forbidden)
+  pub deep : Deep (planOf b) (waitingIn b (v .waiting) (v .count))
+  pub spare : (i : ℕ) → v .count ≤ i → getD (v .waiting) i noFixings ≡ noFixings
+  pub known : Known b (v .best)
+  pub rest-zero : v .best ≡ packed (idsOf (v .best))
+  pub unheld : v .found ≡ false → v .best ≡ packed []
+
+-- ---- requests
+
+abbrev pub requestOf : List ℕ → Query → List ℕ → Request
+requestOf b q out = record { plan = b; query = q; room = length out }

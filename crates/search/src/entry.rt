@@ -1,0 +1,130 @@
+// The planner's answer to a query, for any bytes and any numbers: lines 1 to 10 of the refusal table, and the search.
+use crate::pick;
+use crate::query;
+use crate::query::Query;
+use crate::run;
+use crate::state::Ending;
+use crate::state::Search;
+use plan::check::Verdict;
+use plan::named;
+use route::modes;
+use route::modes::Lowest;
+use route::path;
+use route::sheet;
+use route::sheet::Sheet;
+ghost use mathlib.Core.Path.{_≡_};
+ghost use mathlib.Core.Bool.{false};
+ghost use Prim.Native.Nat.{_≤_};
+ghost use lib.ListN.{length};
+ghost use Rattle.plan.specs.Plan.{planOf};
+ghost use Rattle.plan.specs.Reading.{Accepted};
+ghost use Rattle.plan.specs.Refusals.{numberOf};
+ghost use Rattle.route.specs.Routes.{wrongEnds};
+ghost use Rattle.route.specs.Values.{settingIn};
+ghost use Rattle.search.specs.Answers.{orZero, unlessRefused, outcome, reply, replyTo, replyOf, outAfter};
+ghost use Rattle.search.specs.Values.{requestOf, Valid};
+ghost use Rattle.search.specs.Inner.{bestOf};
+
+// What the planner answers.
+pub enum Answer {
+    // A route: how many subproblems were opened, and the length of its sheet, which stands at the start of the out buffer.
+    Found(u64, usize),
+    // No route is permitted: how many were opened.
+    Nothing(u64),
+    // The budget is spent: how many were opened.
+    Spent(u64),
+    // 1 to 7: lines of the plan.
+    WrongSize,
+    WrongHeader,
+    WrongRecord,
+    WrongChain,
+    BackwardBelt,
+    WrongLiteral,
+    ManyNamed,
+    // 8: s or t outside 1 to J.
+    WrongEnds,
+    // 9: pick over 2, order over 1, or budget 0.
+    WrongQuery,
+    // 10: the out buffer has under 3,072 bytes.
+    ShortBuffer,
+}
+
+// The answer where the plan got this verdict, which refuses it.
+fn of_plan(verdict: Verdict) -> Answer
+    requires { ⌜ (numberOf verdict ≡ 0 → ⊥) ⌝ }
+    ensures { λ v. ⌜ replyOf v ≡ reply (numberOf verdict) 0 0 ⌝ }
+{
+    match verdict {
+        Verdict::Accepted => Answer::WrongSize,
+        Verdict::WrongSize => Answer::WrongSize,
+        Verdict::WrongHeader => Answer::WrongHeader,
+        Verdict::WrongRecord => Answer::WrongRecord,
+        Verdict::WrongChain => Answer::WrongChain,
+        Verdict::BackwardBelt => Answer::BackwardBelt,
+        Verdict::WrongLiteral => Answer::WrongLiteral,
+        Verdict::ManyNamed => Answer::ManyNamed,
+    }
+}
+
+// The setting that works, 0 where none does.
+fn setting_of(lowest: Lowest) -> u16
+    ensures { λ v. ⌜ v ≡ orZero (settingIn lowest) ⌝ }
+{
+    match lowest {
+        Lowest::Works(setting) => setting,
+        Lowest::Nothing => 0,
+    }
+}
+
+// Writes the sheet of the best route of a search that has found it, and answers its length.
+fn write_best(p: &[u8], search: Search, out: &mut [u8]) -> Answer
+    requires { ⌜ Accepted (now p) × Valid (now p) search × (3072 ≤ length (now out)) ⌝ }
+    ensures { λ v. ⌜ (replyOf v ≡ replyTo (bestOf (now (p .entry)) search)) × (now (out .exit) ≡ outAfter (bestOf (now (p .entry)) search) (now (out .entry))) ⌝ }
+{
+    let route = search.best;
+    let sheet = Sheet {
+        route: route,
+        cost: path::cost(p, route),
+        setting: setting_of(modes::lowest_setting(p, route)),
+    };
+    let length = sheet::write(out, sheet);
+    Answer::Found(search.opened, length)
+}
+
+// The answer of a query that no line refuses.
+fn find_route(p: &[u8], query: Query, out: &mut [u8]) -> Answer
+    requires { ⌜ Accepted (now p) × (wrongEnds (planOf (now p)) (query .trip .s) (query .trip .t) ≡ false) × (3072 ≤ length (now out)) ⌝ }
+    ensures { λ v. ⌜ (replyOf v ≡ replyTo (unlessRefused 0 (requestOf (now (p .entry)) query (now (out .entry))))) × (now (out .exit) ≡ outAfter (unlessRefused 0 (requestOf (now (p .entry)) query (now (out .entry)))) (now (out .entry))) ⌝ }
+{
+    let places = named::named_places(p);
+    let counts = pick::rule_counts(p, &places);
+    let stepped = run::run(p, &places, counts, query);
+    let search = stepped.search;
+    let ending = stepped.ending;
+    match ending {
+        Ending::Found => write_best(p, search, out),
+        Ending::Nothing => Answer::Nothing(search.opened),
+        Ending::Spent => Answer::Spent(search.opened),
+        Ending::GoesOn => Answer::Spent(search.opened),
+    }
+}
+
+// Answers a query. On a route its sheet is written to the start of the out buffer; else no byte of it changes.
+pub fn search(p: &[u8], query: Query, out: &mut [u8]) -> Answer
+    ensures { λ v. ⌜ (replyOf v ≡ replyTo (outcome (requestOf (now (p .entry)) query (now (out .entry))))) × (now (out .exit) ≡ outAfter (outcome (requestOf (now (p .entry)) query (now (out .entry)))) (now (out .entry))) ⌝ }
+{
+    let verdict = plan::check::check(p);
+    if plan::check::number(verdict) != 0 {
+        return of_plan(verdict);
+    }
+    if path::wrong_ends(p, query.trip) {
+        return Answer::WrongEnds;
+    }
+    if query::wrong_query(query) {
+        return Answer::WrongQuery;
+    }
+    if out.len() < 3072 {
+        return Answer::ShortBuffer;
+    }
+    find_route(p, query, out)
+}

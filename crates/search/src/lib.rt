@@ -1,0 +1,12 @@
+// The search for the cheapest permitted route of an accepted plan.
+//
+//   query   what is asked: line 9 of the refusal table
+//   pick    the belt that a subproblem is branched on
+//   state   the search between two steps, and one step of it
+//   run     the search from its beginning to its ending
+//   entry   the planner's answer to a query, for any bytes and any numbers
+pub mod entry;
+pub mod pick;
+pub mod query;
+pub mod run;
+pub mod state;

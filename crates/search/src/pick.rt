@@ -1,0 +1,208 @@
+// The belt that a subproblem is branched on: the three picks. Belts are told by their places among the named belts.
+use plan::named;
+use plan::named::Place;
+use plan::read;
+use plan::read::Literal;
+use plan::read::RuleId;
+use route::masks;
+use route::path::Route;
+use route::relax::Fixings;
+ghost use mathlib.Core.Path.{_≡_};
+ghost use mathlib.Core.List.{head?};
+ghost use Prim.Native.Nat.{ℕ, _≤_, _<_};
+ghost use lib.ListN.{length, getD};
+ghost use Rattle.plan.specs.Plan.{planOf, named, ruleAt};
+ghost use Rattle.plan.specs.Reading.{Accepted, IsRule};
+ghost use Rattle.plan.specs.declared.named.Place.the-variants.{At};
+ghost use Rattle.route.specs.Permission.{find};
+ghost use Rattle.route.specs.Values.{idsOf, Known, routeIn, inMask, subproblemIn, namedPlaces};
+ghost use Rattle.search.specs.Branching.{otherwise, pickOf};
+ghost use Rattle.search.specs.Values.{countsOf, pickedPlace};
+ghost use Rattle.search.specs.Inner.{Low, beltsIn, gatheredIn, withRule, unfixedAt, unfixedPlaces, atPlace, Below, busierAt, busiestAt};
+
+// What the picks go by beside a subproblem and its relaxed route: how many named belts there are, and in how many rules each of them is.
+pub struct Counts {
+    pub named: usize,
+    pub rules: [u16; 48],
+}
+
+// The named belts in a rule, as a mask.
+fn in_rule(p: &[u8], places: &[u8; 2048], rule: RuleId) -> u64
+    requires { ⌜ Accepted (now p) × (now places ≡ namedPlaces (now p)) × IsRule (now p) (rule .0) ⌝ }
+    ensures { λ v. ⌜ v ≡ gatheredIn (now (places .entry)) 0 (beltsIn (ruleAt (now (p .entry)) (rule .0))) ⌝ }
+{
+    let mut mask = 0u64;
+    let mut literal = read::first_literal(p, rule);
+    while literal.0 != 0 {
+        let content = read::literal_of(p, literal);
+        match content {
+            Literal::OfBelt(belt, wanted) => {
+                mask = masks::with(mask, named::place_of(places, belt));
+            }
+            Literal::OfMode(mode, wanted) => {}
+        }
+        literal = read::next_literal(p, literal);
+    }
+    mask
+}
+
+// The counts with one more for each belt in the mask of a rule.
+fn with_rule(rules: [u16; 48], named: usize, mask: u64) -> [u16; 48]
+    requires { ⌜ (named ≤ 48) × ((k : ℕ) → getD rules k 0 < 65535) ⌝ }
+    ensures { λ v. ⌜ v ≡ withRule rules named mask ⌝ }
+{
+    let mut sums = rules;
+    let mut k = 0;
+    while k < named {
+        if masks::has(mask, Place::At(k)) {
+            sums[k] += 1;
+        }
+        k += 1;
+    }
+    sums
+}
+
+// The counts of an accepted plan. `places` are those of its named belts (plan::named::named_places). Each rule is read once.
+pub fn rule_counts(p: &[u8], places: &[u8; 2048]) -> Counts
+    requires { ⌜ Accepted (now p) × (now places ≡ namedPlaces (now p)) ⌝ }
+    ensures { λ v. ⌜ v ≡ countsOf (now (p .entry)) ⌝ }
+{
+    let belts = named::named_belts(p);
+    let named = belts.count;
+    let mut rules = [0u16; 48];
+    let mut rule = read::first_rule(p);
+    while rule.0 != 0 {
+        let sums = with_rule(rules, named, in_rule(p, places, rule));
+        rules = sums;
+        rule = read::next_rule(p, rule);
+    }
+    Counts {
+        named: named,
+        rules: rules,
+    }
+}
+
+// The named belts on a route, as a mask.
+fn on_route(places: &[u8; 2048], route: Route) -> u64
+    requires { ⌜ Low (now places) route ⌝ }
+    ensures { λ v. ⌜ v ≡ gatheredIn (now (places .entry)) 0 (idsOf route) ⌝ }
+{
+    let belts = route.belts;
+    let mut mask = 0u64;
+    let mut k = 0;
+    while k < route.count {
+        let belt = belts[k];
+        mask = masks::with(mask, named::place_of(places, belt));
+        k += 1;
+    }
+    mask
+}
+
+// Whether the belt at place k is unfixed.
+fn is_unfixed(fixings: Fixings, k: usize) -> bool
+    requires { ⌜ k < 48 ⌝ }
+    ensures { λ v. ⌜ v ≡ unfixedAt fixings k ⌝ }
+{
+    if masks::has(fixings.required, Place::At(k)) {
+        return false;
+    }
+    !masks::has(fixings.forbidden, Place::At(k))
+}
+
+// The lowest unfixed belt.
+fn lowest(fixings: Fixings, named: usize) -> Place
+    requires { ⌜ named ≤ 48 ⌝ }
+    ensures { λ v. ⌜ v ≡ atPlace (head? (unfixedPlaces fixings named)) ⌝ }
+{
+    let mut k = 0;
+    while k < named {
+        if is_unfixed(fixings, k) {
+            return Place::At(k);
+        }
+        k += 1;
+    }
+    Place::Unnamed
+}
+
+// The lowest unfixed belt in a mask.
+fn lowest_in(fixings: Fixings, named: usize, mask: u64) -> Place
+    requires { ⌜ named ≤ 48 ⌝ }
+    ensures { λ v. ⌜ v ≡ atPlace (find (λ (k : ℕ). inMask mask (At k)) (unfixedPlaces fixings named)) ⌝ }
+{
+    let mut k = 0;
+    while k < named {
+        if is_unfixed(fixings, k) {
+            if masks::has(mask, Place::At(k)) {
+                return Place::At(k);
+            }
+        }
+        k += 1;
+    }
+    Place::Unnamed
+}
+
+// The one in more rules of the best so far, if there is one, and the belt at place k; of equals the best so far.
+fn busier(rules: [u16; 48], best: Place, k: usize) -> Place
+    requires { ⌜ Below best × (k < 48) ⌝ }
+    ensures { λ v. ⌜ v ≡ busierAt rules best k ⌝ }
+{
+    match best {
+        Place::At(j) => {
+            if rules[j] < rules[k] {
+                return Place::At(k);
+            }
+            best
+        }
+        Place::Unnamed => Place::At(k),
+    }
+}
+
+// The unfixed belt in most rules, the lowest of equals.
+fn busiest(fixings: Fixings, counts: Counts) -> Place
+    requires { ⌜ counts .named ≤ 48 ⌝ }
+    ensures { λ v. ⌜ v ≡ atPlace (busiestAt (counts .rules) (unfixedPlaces fixings (counts .named))) ⌝ }
+{
+    let rules = counts.rules;
+    let mut best = Place::Unnamed;
+    let mut k = 0;
+    while k < counts.named {
+        if is_unfixed(fixings, k) {
+            best = busier(rules, best, k);
+        }
+        k += 1;
+    }
+    best
+}
+
+// The lowest unfixed belt on the route, else the lowest.
+fn lowest_on(places: &[u8; 2048], fixings: Fixings, named: usize, route: Route) -> Place
+    requires { ⌜ (named ≤ 48) × Low (now places) route ⌝ }
+    ensures { λ v. ⌜ v ≡ atPlace (otherwise (find (λ (k : ℕ). inMask (gatheredIn (now (places .entry)) 0 (idsOf route)) (At k)) (unfixedPlaces fixings named)) (head? (unfixedPlaces fixings named))) ⌝ }
+{
+    let on = lowest_in(fixings, named, on_route(places, route));
+    match on {
+        Place::At(k) => Place::At(k),
+        Place::Unnamed => lowest(fixings, named),
+    }
+}
+
+// The place of the belt picked, of a subproblem and its relaxed route; Place::Unnamed where no named belt is unfixed.
+pub fn picked(
+    p: &[u8],
+    places: &[u8; 2048],
+    counts: Counts,
+    pick: u64,
+    fixings: Fixings,
+    route: Route,
+) -> Place
+    requires { ⌜ Accepted (now p) × (now places ≡ namedPlaces (now p)) × (counts ≡ countsOf (now p)) × Known (now p) route ⌝ }
+    ensures { λ v. ⌜ v ≡ pickedPlace (named (planOf (now (p .entry)))) (pickOf pick (planOf (now (p .entry))) (subproblemIn (now (p .entry)) fixings) (routeIn (now (p .entry)) route)) ⌝ }
+{
+    if pick == 0 {
+        return lowest(fixings, counts.named);
+    }
+    if pick == 1 {
+        return busiest(fixings, counts);
+    }
+    lowest_on(places, fixings, counts.named, route)
+}
