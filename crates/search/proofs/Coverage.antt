@@ -30,11 +30,11 @@ use Rattle.route.proofs.Firsts.{relaxed-some, relaxed-none}
 use Rattle.route.proofs.Lowest.{lowest-claim}
 use Rattle.search.specs.declared.state.Ending.the-variants.{Found, Nothing, Spent}
 use Rattle.search.specs.Branching.{unfixed, children}
-use Rattle.search.specs.Search.{Problem, State, free, begun, branched, tested, settingOf, compared, improves, considered, takeAt, openNext, nextOf, next, stateAt, run}
+use Rattle.search.specs.Search.{Problem, State, free, begun, branched, tested, settingOf, compared, improves, considered, takeAt, openNext, stateAt, run}
 use Rattle.search.specs.Claims.{IsPermitted, Explores, Covers, CoverageClaim, BoundClaim, AnyChoiceClaim}
 use Rattle.search.proofs.Branches.{children-admit, settled}
 use Rattle.search.proofs.Weights.{tree, tree-pow, tree-some, size, weight, weight-some, weight-free, weight-taken, weight-children}
-use Rattle.search.proofs.Steps.{state-opened, run-over, run-found, run-nothing, run-counted, run-complete, run-spent-at, run-spent, run-larger}
+use Rattle.search.proofs.Steps.{along, state-opened, run-over, run-found, run-nothing, run-counted, run-complete, run-spent-at, run-spent, run-larger}
 
 -- ---- the subproblem that is taken
 
@@ -231,16 +231,7 @@ module _ (q : Problem) (ex : Explores q) where
 
   -- every state of the sequence is sound
   sound-at : (n : ℕ) (st : State) → stateAt q n ≡ some st → Sound q st
-  sound-at zero st h = subst (Sound q) (Option·some-injective begun st h) (sound-begun q)
-  sound-at (suc n) st h = go (stateAt q n) refl h (sound-at n)
-    where
-      opened : (st′ : State) → Sound q st′ → (xs : List Subproblem) → st′ .waiting ≡ xs → nextOf q st′ xs ≡ some st → Sound q st
-      opened st′ sound [] e k = absurd (Option·none-ne-some st k)
-      opened st′ sound (x ∷ xs) e k = subst (Sound q) (Option·some-injective (openNext q st′ x xs) st k) (sound-next st′ x xs e sound)
-
-      go : (o : Option State) → stateAt q n ≡ o → next q o ≡ some st → ((st′ : State) → stateAt q n ≡ some st′ → Sound q st′) → Sound q st
-      go none e k below = absurd (Option·none-ne-some st k)
-      go (some st′) e k below = opened st′ (below st′ e) (st′ .waiting) refl k
+  sound-at = along q (λ (n : ℕ) (st : State). Sound q st) (sound-begun q) (λ n st x xs w sound. sound-next st x xs w sound)
 
 -- ---- the claims
 

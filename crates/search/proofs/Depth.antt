@@ -17,10 +17,11 @@ use lib.ListN.{length, getD}
 use Rattle.plan.specs.Plan.{Belt, Plan, named}
 use Rattle.route.specs.Subproblems.{Subproblem, relaxed}
 use Rattle.search.specs.Branching.{unfixed, fixedCount, requiring, forbidding, children}
-use Rattle.search.specs.Search.{Problem, State, free, begun, branched, tested, settingOf, compared, improves, considered, takeAt, openTaken, nextOf, next, stateAt}
+use Rattle.search.specs.Search.{Problem, State, free, begun, branched, tested, settingOf, compared, improves, considered, takeAt, openTaken, openNext, stateAt}
 use Rattle.search.specs.Values.{Deep}
 use Rattle.search.specs.Claims.{DepthClaim}
 use Rattle.search.proofs.Branches.{fixed-unfixed, fixed-more}
+use Rattle.search.proofs.Steps.{along}
 
 pub deep-begun : (p : Plan) → Deep p (begun .waiting)
 deep-begun p = (omega arith, tt)
@@ -69,25 +70,16 @@ module _ (q : Problem) (picks : Picks q) (x : Subproblem) (st : State) (deep : D
 -- ---- the sequence
 
 module _ (q : Problem) (picks : Picks q) (newest : (xs : List Subproblem) → q .choose xs ≡ 0) where
-  -- of a state, if there is one
-  abbrev DeepIn : Option State → Type 0
-  DeepIn none = Unit {0}
-  DeepIn (some st) = Deep (q .plan) (st .waiting)
-
-  deep-next-of : (st : State) (xs : List Subproblem) → Deep (q .plan) xs → DeepIn (nextOf q st xs)
-  deep-next-of st [] h = tt
-  deep-next-of st (x ∷ xs) h =
+  deep-next : (st : State) (x : Subproblem) (xs : List Subproblem) → st .waiting ≡ x ∷ xs → Deep (q .plan) (st .waiting)
+      → Deep (q .plan) (openNext q st x xs .waiting)
+  deep-next st x xs w deep =
+      let (room, older) = subst (Deep (q .plan)) w deep in
       let left : State = record { waiting = xs; opened = suc (st .opened); best = st .best } in
       subst (λ (k : ℕ). Deep (q .plan) (openTaken q st (takeAt k x xs) .waiting)) (sym (newest (x ∷ xs)))
-      (deep-considered q picks x left (h .1) (h .0) (relaxed (q .plan) (q .s) (q .t) x))
+      (deep-considered q picks x left older room (relaxed (q .plan) (q .s) (q .t) x))
 
-  deep-next : (o : Option State) → DeepIn o → DeepIn (next q o)
-  deep-next none h = tt
-  deep-next (some st) h = deep-next-of st (st .waiting) h
-
-  deep-at : (n : ℕ) → DeepIn (stateAt q n)
-  deep-at zero = deep-begun (q .plan)
-  deep-at (suc n) = deep-next (stateAt q n) (deep-at n)
+  deep-at : (n : ℕ) (st : State) → stateAt q n ≡ some st → Deep (q .plan) (st .waiting)
+  deep-at = along q (λ (n : ℕ) (st : State). Deep (q .plan) (st .waiting)) (deep-begun (q .plan)) (λ n. deep-next)
 
 -- the i-th oldest has j newer ones above it
 deep-old : (p : Plan) (xs : List Subproblem) → Deep p xs → (i j : ℕ) → 1 ≤ i → i + j ≡ length xs → i - 1 ≤ fixedCount p (getD xs j free)
@@ -97,5 +89,5 @@ deep-old p (x ∷ older) h i (suc j) l e = deep-old p older (h .1) i j l (omega 
 
 pub depth-claim : DepthClaim
 depth-claim q ex newest n st h =
-    let deep = subst (DeepIn q (ex .picks) newest) h (deep-at q (ex .picks) newest n) in
+    let deep = deep-at q (ex .picks) newest n st h in
     (deep-few (q .plan) (st .waiting) deep, deep-old (q .plan) (st .waiting) deep)

@@ -1,8 +1,6 @@
 -- What the planner replies: its numbers and the out buffer are those of the outcome. The one idea: each answer of the code belongs to one
 -- outcome (the sheet of a best route, an ending of the run, a broken line), and the request comes to that outcome.
 --
---   Told v before after o
---                       the numbers v, and the buffer before and after, are those of the outcome o
 --   written-best        the sheet of the best route of a search that found it
 --   found-held          a run that ends with a route holds one
 --   turn-ended, turn-found
@@ -38,14 +36,10 @@ use Rattle.search.specs.declared.state.Ending.{Ending}
 use Rattle.search.specs.declared.state.Ending.the-variants.{Found}
 use Rattle.search.specs.declared.query.Query.{Query}
 use Rattle.search.specs.Search.{Turn, settingOf, run}
-use Rattle.search.specs.Answers.{Request, onCheck, wrongQuery, broken9, broken10, searchRefusal, Outcome, route, orZero, endingOf, ended, problemIn, unlessRefused, outcome, Reply, reply, replyTo, outAfter}
+use Rattle.search.specs.Answers.{Request, onCheck, wrongQuery, broken9, broken10, searchRefusal, route, orZero, endingOf, ended, problemIn, unlessRefused, outcome, Reply, reply, Told}
 use Rattle.search.specs.Values.{bestIn, turnIn, requestOf}
 use Rattle.search.specs.Inner.{bestOf}
 use Rattle.search.proofs.Steps.{run-found}
-
--- the numbers v, and the buffer before and after, are those of the outcome o
-abbrev pub Told : Reply → List ℕ → List ℕ → Outcome → Type 0
-Told v before after o = (v ≡ replyTo o) × (after ≡ outAfter o before)
 
 -- ---- the sheet of the best route
 

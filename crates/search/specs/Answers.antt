@@ -12,8 +12,11 @@
 --                       for spent; the count; the length of the sheet. What a refusal lacks is 0
 --   replyOf v           the numbers of each case of the code's answer
 --   outAfter o out      the lent buffer afterwards: on a route the sheet, and behind it what stood there; else every byte as it was
+--   Told v before after o
+--                       the numbers v and the buffer, before and after, are those of the outcome o
 --
 -- `Query` and `Answer` are declared by the code (src/query.rt, src/entry.rt). Assumes nothing.
+use mathlib.Core.Path.{_≡_}
 use Prim.Native.Nat.{ℕ, zero, suc}
 use mathlib.Core.Bool.{Bool, not, _&&_}
 use mathlib.Core.Option.{Option, none, some}
@@ -136,3 +139,6 @@ outAfter (route es c σ n) out = sheetOf es c σ ++ drop (length (sheetOf es c �
 outAfter (refused n) out = out
 outAfter (nothing n) out = out
 outAfter (spent n) out = out
+
+abbrev pub Told : Reply → List ℕ → List ℕ → Outcome → Type 0
+Told v before after o = (v ≡ replyTo o) × (after ≡ outAfter o before)

@@ -16,6 +16,8 @@
 --                         the Search v, with two more waiting
 --   Room v q              there is room for two more, if q is a place; branchedTo f q o v: the Search v with both children of the masks f
 --   Taken b v f           a Search from which the subproblem of the masks f was taken: there is room for its children
+--   Stands b v st         a valid Search that stands for the state st
+--   testedIn, openedIn    steps 4 to 6 and 3 to 6 of a query, from the state that a Search stands for
 -- Answers:
 --   bestOf b v            what a search that found its best route comes to
 --
@@ -35,11 +37,14 @@ use Rattle.plan.specs.Lists.{counted, keep, upto}
 use Rattle.plan.specs.Plan.{planOf, placeIn}
 use Rattle.route.specs.declared.path.Route.{Route}
 use Rattle.route.specs.declared.relax.Fixings.{Fixings}
+use Rattle.route.specs.Subproblems.{relaxed}
 use Rattle.route.specs.Values.{idsOf, routeIn, inMask, withPlace, LowPlace, OfNamed, subproblemIn}
+use Rattle.search.specs.declared.query.Query.{Query}
 use Rattle.search.specs.declared.state.Search.{Search}
 use Rattle.search.specs.Branching.{fixedCount}
-use Rattle.search.specs.Answers.{Outcome, bestRoute}
-use Rattle.search.specs.Values.{Valid}
+use Rattle.search.specs.Search.{State, settingOf, tested, considered}
+use Rattle.search.specs.Answers.{Outcome, bestRoute, problemIn}
+use Rattle.search.specs.Values.{stateIn, Valid}
 
 -- ---- picks
 
@@ -116,6 +121,16 @@ pub record Taken (b : List ℕ) (v : Search) (f : Fixings) : Type 0 where
   pub required : OfNamed b (f .required)
   pub forbidden : OfNamed b (f .forbidden)
   pub room : v .count ≤ fixedCount (planOf b) (subproblemIn b f)
+
+abbrev pub Stands : List ℕ → Search → State → Type 0
+Stands b v st = (stateIn b v ≡ st) × Valid b v
+
+abbrev pub testedIn : List ℕ → Query → Fixings → Route → Search → State
+testedIn b q f r v = tested (problemIn b q) (subproblemIn b f) (stateIn b v) (routeIn b r) (settingOf (planOf b) (routeIn b r))
+
+abbrev pub openedIn : List ℕ → Query → Fixings → Search → State
+openedIn b q f v =
+    considered (problemIn b q) (subproblemIn b f) (stateIn b v) (relaxed (planOf b) (q .trip .s) (q .trip .t) (subproblemIn b f))
 
 -- ---- answers
 

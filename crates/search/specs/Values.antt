@@ -10,6 +10,10 @@
 --   Deep p xs           of the waiting subproblems each fixes at least as many named belts as there are older ones
 --   Valid b v           a Search of the plan b: its masks are over the named belts, each waiting subproblem fixes enough of them, the best
 --                       is of belts of the plan, and what is not in use is 0. So equal states are equal values (Claims.antt)
+--   Ready b places counts q
+--                       what a search of the plan b goes by: it is accepted, `places` and `counts` are those of its named belts, and s and t
+--                       are junctions
+--   stepIn b q v        one step of the query q from the state that a Search stands for
 --   requestOf b q out   the request of a call
 --
 -- Assumes nothing.
@@ -22,17 +26,19 @@ use lib.ListN.{length, getD, replicate}
 use Rattle.plan.specs.declared.named.Place.{Place}
 use Rattle.plan.specs.declared.named.Place.the-variants.{Unnamed}
 use Rattle.plan.specs.Plan.{Belt, Plan, planOf, named, placeOf}
+use Rattle.plan.specs.Reading.{Accepted}
 use Rattle.route.specs.declared.path.Route.{Route}
 use Rattle.route.specs.declared.relax.Fixings.{Fixings}
+use Rattle.route.specs.Routes.{wrongEnds}
 use Rattle.route.specs.Subproblems.{Subproblem}
-use Rattle.route.specs.Values.{idsOf, packed, Known, routeIn, OfNamed, subproblemIn}
+use Rattle.route.specs.Values.{idsOf, packed, Known, routeIn, OfNamed, subproblemIn, namedPlaces}
 use Rattle.search.specs.declared.query.Query.{Query}
 use Rattle.search.specs.declared.pick.Counts.{Counts}
 use Rattle.search.specs.declared.state.Search.{Search}
 use Rattle.search.specs.declared.state.Stepped.{Stepped}
 use Rattle.search.specs.Branching.{fixedCount, ruleCount}
-use Rattle.search.specs.Search.{State, Turn}
-use Rattle.search.specs.Answers.{Request}
+use Rattle.search.specs.Search.{State, Turn, step}
+use Rattle.search.specs.Answers.{Request, problemIn}
 
 -- ---- picks
 
@@ -80,6 +86,15 @@ pub record Valid (b : List ℕ) (v : Search) : Type 0 where
   pub known : Known b (v .best)
   pub rest-zero : v .best ≡ packed (idsOf (v .best))
   pub unheld : v .found ≡ false → v .best ≡ packed []
+
+pub record Ready (b : List ℕ) (places : List ℕ) (counts : Counts) (q : Query) : Type 0 where
+  pub accepted : Accepted b
+  pub placed : places ≡ namedPlaces b
+  pub counted : counts ≡ countsOf b
+  pub ends : wrongEnds (planOf b) (q .trip .s) (q .trip .t) ≡ false
+
+abbrev pub stepIn : List ℕ → Query → Search → Turn
+stepIn b q v = step (problemIn b q) (q .budget) (stateIn b v)
 
 -- ---- requests
 

@@ -21,7 +21,7 @@ ghost use Rattle.plan.specs.Reading.{Accepted};
 ghost use Rattle.plan.specs.Refusals.{numberOf};
 ghost use Rattle.route.specs.Routes.{wrongEnds};
 ghost use Rattle.route.specs.Values.{settingIn};
-ghost use Rattle.search.specs.Answers.{orZero, unlessRefused, outcome, reply, replyTo, replyOf, outAfter};
+ghost use Rattle.search.specs.Answers.{orZero, unlessRefused, outcome, reply, replyOf, Told};
 ghost use Rattle.search.specs.Values.{requestOf, Valid};
 ghost use Rattle.search.specs.Inner.{bestOf};
 
@@ -79,7 +79,7 @@ fn setting_of(lowest: Lowest) -> u16
 // Writes the sheet of the best route of a search that has found it, and answers its length.
 fn write_best(p: &[u8], search: Search, out: &mut [u8]) -> Answer
     requires { ⌜ Accepted (now p) × Valid (now p) search × (3072 ≤ length (now out)) ⌝ }
-    ensures { λ v. ⌜ (replyOf v ≡ replyTo (bestOf (now (p .entry)) search)) × (now (out .exit) ≡ outAfter (bestOf (now (p .entry)) search) (now (out .entry))) ⌝ }
+    ensures { λ v. ⌜ Told (replyOf v) (now (out .entry)) (now (out .exit)) (bestOf (now (p .entry)) search) ⌝ }
 {
     let route = search.best;
     let sheet = Sheet {
@@ -94,7 +94,7 @@ fn write_best(p: &[u8], search: Search, out: &mut [u8]) -> Answer
 // The answer of a query that no line refuses.
 fn find_route(p: &[u8], query: Query, out: &mut [u8]) -> Answer
     requires { ⌜ Accepted (now p) × (wrongEnds (planOf (now p)) (query .trip .s) (query .trip .t) ≡ false) × (3072 ≤ length (now out)) ⌝ }
-    ensures { λ v. ⌜ (replyOf v ≡ replyTo (unlessRefused 0 (requestOf (now (p .entry)) query (now (out .entry))))) × (now (out .exit) ≡ outAfter (unlessRefused 0 (requestOf (now (p .entry)) query (now (out .entry)))) (now (out .entry))) ⌝ }
+    ensures { λ v. ⌜ Told (replyOf v) (now (out .entry)) (now (out .exit)) (unlessRefused 0 (requestOf (now (p .entry)) query (now (out .entry)))) ⌝ }
 {
     let places = named::named_places(p);
     let counts = pick::rule_counts(p, &places);
@@ -111,7 +111,7 @@ fn find_route(p: &[u8], query: Query, out: &mut [u8]) -> Answer
 
 // Answers a query. On a route its sheet is written to the start of the out buffer; else no byte of it changes.
 pub fn search(p: &[u8], query: Query, out: &mut [u8]) -> Answer
-    ensures { λ v. ⌜ (replyOf v ≡ replyTo (outcome (requestOf (now (p .entry)) query (now (out .entry))))) × (now (out .exit) ≡ outAfter (outcome (requestOf (now (p .entry)) query (now (out .entry)))) (now (out .entry))) ⌝ }
+    ensures { λ v. ⌜ Told (replyOf v) (now (out .entry)) (now (out .exit)) (outcome (requestOf (now (p .entry)) query (now (out .entry)))) ⌝ }
 {
     let verdict = plan::check::check(p);
     if plan::check::number(verdict) != 0 {
@@ -127,4 +127,25 @@ pub fn search(p: &[u8], query: Query, out: &mut [u8]) -> Answer
         return Answer::ShortBuffer;
     }
     find_route(p, query, out)
+}
+
+// The number of an answer: 0 for a route, 100 for none, 101 for spent, or that of the broken line.
+pub fn number(answer: Answer) -> u8
+    ensures { λ v. ⌜ v ≡ replyOf answer .number ⌝ }
+{
+    match answer {
+        Answer::Found(opened, length) => 0,
+        Answer::Nothing(opened) => 100,
+        Answer::Spent(opened) => 101,
+        Answer::WrongSize => 1,
+        Answer::WrongHeader => 2,
+        Answer::WrongRecord => 3,
+        Answer::WrongChain => 4,
+        Answer::BackwardBelt => 5,
+        Answer::WrongLiteral => 6,
+        Answer::ManyNamed => 7,
+        Answer::WrongEnds => 8,
+        Answer::WrongQuery => 9,
+        Answer::ShortBuffer => 10,
+    }
 }

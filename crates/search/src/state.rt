@@ -12,17 +12,10 @@ use route::path::Route;
 use route::relax;
 use route::relax::Fixings;
 ghost use mathlib.Core.Path.{_≡_};
-ghost use mathlib.Core.Bool.{false};
 ghost use Prim.Native.Nat.{_≤_};
-ghost use Rattle.plan.specs.Plan.{planOf};
-ghost use Rattle.plan.specs.Reading.{Accepted};
-ghost use Rattle.route.specs.Routes.{wrongEnds};
-ghost use Rattle.route.specs.Subproblems.{relaxed};
-ghost use Rattle.route.specs.Values.{idsOf, packed, Known, routeIn, subproblemIn, namedPlaces};
-ghost use Rattle.search.specs.Search.{settingOf, tested, considered, step};
-ghost use Rattle.search.specs.Answers.{problemIn};
-ghost use Rattle.search.specs.Values.{countsOf, stateIn, turnIn, Valid, firstSearch};
-ghost use Rattle.search.specs.Inner.{withBoth, Room, branchedTo, Taken};
+ghost use Rattle.route.specs.Values.{idsOf, packed, Known};
+ghost use Rattle.search.specs.Values.{turnIn, Valid, firstSearch, Ready, stepIn};
+ghost use Rattle.search.specs.Inner.{withBoth, Room, branchedTo, Taken, Stands, testedIn, openedIn};
 
 // A search: the subproblems that wait are the first `count` of the array, the newest last; how many have been opened; and the best route
 // so far, if one is found. What is not in use is 0. It is handed on by value, and holds nothing that follows from the rest of it.
@@ -118,8 +111,8 @@ impl Search {
         fixings: Fixings,
         route: Route,
     ) -> Search
-        requires { ⌜ Accepted (now p) × (now places ≡ namedPlaces (now p)) × (counts ≡ countsOf (now p)) × Taken (now p) self fixings × Known (now p) route × (route ≡ packed (idsOf route)) ⌝ }
-        ensures { λ v. ⌜ (stateIn (now (p .entry)) v ≡ tested (problemIn (now (p .entry)) query) (subproblemIn (now (p .entry)) fixings) (stateIn (now (p .entry)) self) (routeIn (now (p .entry)) route) (settingOf (planOf (now (p .entry))) (routeIn (now (p .entry)) route))) × Valid (now (p .entry)) v ⌝ }
+        requires { ⌜ Ready (now p) (now places) counts query × Taken (now p) self fixings × Known (now p) route × (route ≡ packed (idsOf route)) ⌝ }
+        ensures { λ v. ⌜ Stands (now (p .entry)) v (testedIn (now (p .entry)) query fixings route self) ⌝ }
     {
         let setting = modes::lowest_setting(p, route);
         match setting {
@@ -144,8 +137,8 @@ impl Search {
         query: Query,
         fixings: Fixings,
     ) -> Search
-        requires { ⌜ Accepted (now p) × (now places ≡ namedPlaces (now p)) × (counts ≡ countsOf (now p)) × (wrongEnds (planOf (now p)) (query .trip .s) (query .trip .t) ≡ false) × Taken (now p) self fixings ⌝ }
-        ensures { λ v. ⌜ (stateIn (now (p .entry)) v ≡ considered (problemIn (now (p .entry)) query) (subproblemIn (now (p .entry)) fixings) (stateIn (now (p .entry)) self) (relaxed (planOf (now (p .entry))) (query .trip .s) (query .trip .t) (subproblemIn (now (p .entry)) fixings))) × Valid (now (p .entry)) v ⌝ }
+        requires { ⌜ Ready (now p) (now places) counts query × Taken (now p) self fixings ⌝ }
+        ensures { λ v. ⌜ Stands (now (p .entry)) v (openedIn (now (p .entry)) query fixings self) ⌝ }
     {
         let relaxed = relax::relaxed_route(p, places, query.trip, fixings);
         if !relaxed.found {
@@ -162,8 +155,8 @@ impl Search {
 
     // One step. `places` and `counts` are those of the plan (plan::named::named_places, pick::rule_counts).
     pub fn step(mut self, p: &[u8], places: &[u8; 2048], counts: Counts, query: Query) -> Stepped
-        requires { ⌜ Accepted (now p) × (now places ≡ namedPlaces (now p)) × (counts ≡ countsOf (now p)) × (wrongEnds (planOf (now p)) (query .trip .s) (query .trip .t) ≡ false) × Valid (now p) self × (self .opened ≤ query .budget) ⌝ }
-        ensures { λ v. ⌜ (turnIn (now (p .entry)) v ≡ step (problemIn (now (p .entry)) query) (query .budget) (stateIn (now (p .entry)) self)) × Valid (now (p .entry)) (v .search) ⌝ }
+        requires { ⌜ Ready (now p) (now places) counts query × Valid (now p) self × (self .opened ≤ query .budget) ⌝ }
+        ensures { λ v. ⌜ (turnIn (now (p .entry)) v ≡ stepIn (now (p .entry)) query self) × Valid (now (p .entry)) (v .search) ⌝ }
     {
         if self.count == 0 {
             if self.found {

@@ -2,8 +2,8 @@
 use mathlib.Core.Path.{refl, subst}
 use borrow.Author.Needs.{needs}
 use Rattle.search.specs.declared.state.Ending.the-variants.{GoesOn, Nothing, Spent}
-use Rattle.search.specs.Answers.{reply, replyOf}
-use Rattle.search.proofs.Replies.{Told, turn-ended, turn-found}
+use Rattle.search.specs.Answers.{reply, replyOf, Told}
+use Rattle.search.proofs.Replies.{turn-ended, turn-found}
 use Rattle.search.proofs.entry.find_route.Statement.{statement}
 use Rattle.search.proofs.entry.find_route.Tie as tie
 

@@ -7,9 +7,9 @@ use Rattle.plan.specs.Plan.{planOf}
 use Rattle.plan.specs.Refusals.{numberOf}
 use Rattle.plan.specs.Reading.{Accepted}
 use Rattle.route.specs.Routes.{wrongEnds}
-use Rattle.search.specs.Answers.{Request, wrongQuery, replyOf}
+use Rattle.search.specs.Answers.{Request, wrongQuery, replyOf, Told}
 use Rattle.search.specs.Values.{requestOf}
-use Rattle.search.proofs.Replies.{Told, plan-refused, refused-8, refused-9, refused-10, none-refused, outcome-by, refused-told}
+use Rattle.search.proofs.Replies.{plan-refused, refused-8, refused-9, refused-10, none-refused, outcome-by, refused-told}
 use Rattle.search.proofs.entry.search.Statement.{statement}
 use Rattle.search.proofs.entry.search.Tie as tie
 

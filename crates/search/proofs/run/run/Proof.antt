@@ -29,7 +29,7 @@ step-requires : tie.Need-step-requires Inv-loop μ-loop
 step-requires c κs =
     let pre = c .before .before .before .pre in
     let now = c .loop .inv in
-    (pre .0, pre .1, pre .2, pre .3, now .valid, now .within)
+    (pre, now .valid, now .within)
 
 enum-told : tie.Need-enum-told Inv-loop μ-loop
 enum-told c = search needs

@@ -28,7 +28,7 @@ returns c =
     let w = asked .relaxed-route .result in (
       considered-none b (start .args .query) (one start) (start .args .self)
           (no-route (relaxed (planOf b) (trip .s) (trip .t) (one start)) w (asked .relaxed-route .ensures) (not-true (w .found) (c .if1 .taken))),
-      start .pre .4 .valid,
+      start .pre .1 .valid,
     )
 
 -- the relaxed route that was found
@@ -40,13 +40,13 @@ found c =
     let start = asked .before .before in
     let trip = start .args .query .trip in
     let w = asked .relaxed-route .result in
-    answered (start .pre .0) (λ i. asked .before .shared-slice-known .given i .fits) (trip .s) (trip .t) (start .pre .3) (one start) w
+    answered (start .pre .0 .accepted) (λ i. asked .before .shared-slice-known .given i .fits) (trip .s) (trip .t) (start .pre .0 .ends) (one start) w
     (asked .relaxed-route .ensures) (not-false (w .found) (c .before .if1 .left))
 
 before-requires : tie.Need-before-requires
 before-requires c κs =
     let start = c .before .before .before .before .before .before in
-    (start .pre .0, found (c .before) .0, start .pre .4 .valid .known)
+    (start .pre .0 .accepted, found (c .before) .0, start .pre .1 .valid .known)
 
 returns-2 : tie.Need-returns-2
 returns-2 c =
@@ -56,7 +56,7 @@ returns-2 c =
     let start = asked .before .before in (
       considered-late (start .args .p .now) (start .args .query) (one start) (start .args .self) (asked .relaxed-route .result .route) (found routed .2)
           (held .if2 .taken) (sym (c .before .before2 .ensures) ∙ not-true (c .before .before2 .result) (c .if3 .taken)),
-      start .pre .4 .valid,
+      start .pre .1 .valid,
     )
 
 test-requires : tie.Need-test-requires
@@ -64,7 +64,7 @@ test-requires c κs =
     let start = c .before .before .before .before .before .before in
     let pre = start .pre in
     let all = found (c .before) in
-    (pre .0, pre .1, pre .2, pre .4, all .0, all .1)
+    (pre .0, pre .1, all .0, all .1)
 
 returns-3 : tie.Need-returns-3
 returns-3 c =

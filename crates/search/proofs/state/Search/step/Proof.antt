@@ -12,26 +12,26 @@ returns : tie.Need-returns
 returns c =
     let start = c .before .before .before in
     let q = start .args .query in
-    (step-found (start .args .p .now) q (q .budget) (start .args .t1) (c .before .if1 .taken) (c .if2 .taken), start .pre .4)
+    (step-found (start .args .p .now) q (q .budget) (start .args .t1) (c .before .if1 .taken) (c .if2 .taken), start .pre .1)
 
 returns-2 : tie.Need-returns-2
 returns-2 c =
     let start = c .before .before .before in
     let q = start .args .query in
-    (step-nothing (start .args .p .now) q (q .budget) (start .args .t1) (c .before .if1 .taken) (c .if2 .left), start .pre .4)
+    (step-nothing (start .args .p .now) q (q .budget) (start .args .t1) (c .before .if1 .taken) (c .if2 .left), start .pre .1)
 
 returns-3 : tie.Need-returns-3
 returns-3 c =
     let start = c .before .before .before .before in
     let q = start .args .query in
-    (step-spent (start .args .p .now) q (q .budget) (start .args .t1) (c .before .before .if1 .left) (c .if3 .taken), start .pre .4)
+    (step-spent (start .args .p .now) q (q .budget) (start .args .t1) (c .before .before .if1 .left) (c .if3 .taken), start .pre .1)
 
 sub-top : tie.Need-sub-top
 sub-top c = search needs
 
 -- the newest is one of 49
 below : (c : tie.Start) → c .args .t1 .count ≤ 49
-below c = count-few (c .pre .0) (c .pre .4)
+below c = count-few (c .pre .0 .accepted) (c .pre .1)
 
 mul-fixings : tie.Need-mul-fixings
 mul-fixings c = record { fits = omega (arith, below (c .before .before .before .before)) }
@@ -52,12 +52,12 @@ add-self c = search needs
 taken : (c : tie.Else3) → let start = c .before .before .before .before in Taken (start .args .p .now) (popped (start .args .t1)) (newestOf (start .args .t1))
 taken c =
     let start = c .before .before .before .before in
-    popped-taken (start .pre .0) (start .args .t1) (places (start .args .t1) (start .good .0 .1 .1 .0 .1 .0 .1)) (start .pre .4) (c .before .before .if1 .left)
+    popped-taken (start .pre .0 .accepted) (start .args .t1) (places (start .args .t1) (start .good .0 .1 .1 .0 .1 .0 .1)) (start .pre .1) (c .before .before .if1 .left)
 
 open-requires : tie.Need-open-requires
 open-requires c κs =
     let pre = c .before .before .before .before .before .pre in
-    (pre .0, pre .1, pre .2, pre .3, taken (c .before))
+    (pre .0, taken (c .before))
 
 returns-4 : tie.Need-returns-4
 returns-4 c =

@@ -49,7 +49,7 @@ picked c =
     let q = start .args .query in
     subst (λ (k : Place). Room v k × (stateIn b (branchedTo f k (q .order) v) ≡ by start none) × Valid b (branchedTo f k (q .order) v))
     (sym (c .picked .ensures))
-    (branch-tested (start .pre .0) v (size start) f (start .pre .3) q (routeIn b (start .args .route)))
+    (branch-tested (start .pre .0 .accepted) v (size start) f (start .pre .1) q (routeIn b (start .args .route)))
 
 branch-requires : tie.Need-branch-requires
 branch-requires c κs = picked c .0
@@ -60,7 +60,7 @@ returns c =
     let start = asked .before .before in
     let pre = start .pre in (
       ap (by start) (sym (ap settingIn (c .before .setting .given .1)) ∙ asked .lowest-setting .ensures),
-      held-valid (pre .3 .valid) (pre .4) (pre .5),
+      held-valid (pre .1 .valid) (pre .2) (pre .3),
     )
 
 returns-2 : tie.Need-returns-2
