@@ -4,13 +4,13 @@ use cases::plans::Plan;
 use cases::print::print_number;
 use plan::named::Place;
 use plan::read::BeltId;
-use route::path::Route;
+use route::masks;
 use route::path::Trip;
 use route::relax::Fixings;
 use route::relax::Relaxed;
 ghost use mathlib.Core.Path.{_≡_};
 ghost use mathlib.Core.Bool.{true, false};
-ghost use Prim.Native.Nat.{_^_, _≤_, _<_};
+ghost use Prim.Native.Nat.{_^_, _<_};
 ghost use Rattle.plan.specs.Plan.{planOf};
 ghost use Rattle.plan.specs.Reading.{Accepted};
 ghost use Rattle.route.specs.Routes.{wrongEnds};
@@ -36,7 +36,7 @@ fn with(mask: Mask, place: Place) -> Mask {
         if k < 64 {
             return Mask {
                 named: mask.named,
-                bits: mask.bits | (1u64 << k),
+                bits: masks::with(mask.bits, place),
             };
         }
     }
@@ -73,18 +73,6 @@ fn within(mask: Mask, end: usize) -> bool
     false
 }
 
-fn print_belts(route: Route)
-    requires { ⌜ route .count ≤ 255 ⌝ }
-{
-    let belts = route.belts;
-    let mut k = 0;
-    while k < route.count {
-        let belt = belts[k];
-        print_number(b" ", belt.0 as u64);
-        k += 1;
-    }
-}
-
 fn print_relaxed(relaxed: Relaxed) {
     if !relaxed.found {
         io::write_all(1, b" none");
@@ -93,7 +81,7 @@ fn print_relaxed(relaxed: Relaxed) {
     print_number(b" ", relaxed.cost);
     let route = relaxed.route;
     if route.count <= 255 {
-        print_belts(route);
+        listing::print_belts(route);
     }
 }
 
