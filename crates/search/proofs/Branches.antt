@@ -33,7 +33,7 @@ use Rattle.route.specs.Subproblems.{Subproblem, admits}
 use Rattle.route.proofs.ByName.{route-belts}
 use Rattle.route.proofs.Firsts.{admits-is, is-admits}
 use Rattle.route.proofs.Holding.{AgreeOn, permitted-same}
-use Rattle.search.specs.Branching.{isFixed, unfixed, fixedCount, adding, requiring, forbidding, children, ruleCount, busier, busiest, otherwise, pickOf}
+use Rattle.search.specs.Branching.{isFixed, unfixed, fixedCount, adding, requiring, forbidding, children, ruleCount, higher, highest, otherwise, pickOf}
 use Rattle.search.specs.Search.{settingOf, problemOf}
 use Rattle.search.specs.Claims.{Explores}
 
@@ -212,17 +212,17 @@ from-head : (es : List ℕ) → From es (head? es)
 from-head [] = refl
 from-head (e ∷ es) = List·Memᴰ·head refl
 
-from-busier : (p : Plan) (e : ℕ) (es : List ℕ) (o : Option ℕ) → From es o → From (e ∷ es) (busier p e o)
-from-busier p e es none h = List·Memᴰ·head refl
-from-busier p e es (some f) h = go (ltb (ruleCount p e) (ruleCount p f))
+from-higher : (count : ℕ → ℕ) (e : ℕ) (es : List ℕ) (o : Option ℕ) → From es o → From (e ∷ es) (higher count e o)
+from-higher count e es none h = List·Memᴰ·head refl
+from-higher count e es (some f) h = go (ltb (count e) (count f))
   where
     go : (t : Bool) → From (e ∷ es) (elim t [ true ↦ some f | false ↦ some e ])
     go true = List·Memᴰ·tail h
     go false = List·Memᴰ·head refl
 
-from-busiest : (p : Plan) (es : List ℕ) → From es (busiest p es)
-from-busiest p [] = refl
-from-busiest p (e ∷ es) = from-busier p e es (busiest p es) (from-busiest p es)
+from-highest : (count : ℕ → ℕ) (es : List ℕ) → From es (highest count es)
+from-highest count [] = refl
+from-highest count (e ∷ es) = from-higher count e es (highest count es) (from-highest count es)
 
 -- what is found is one of them
 abbrev Among : List ℕ → Option ℕ → Type 0
@@ -244,7 +244,7 @@ from-else es (some e) w h k = h
 
 from-pick : (k : ℕ) (p : Plan) (x : Subproblem) (r : List Belt) → From (unfixed p x) (pickOf k p x r)
 from-pick zero p x r = from-head (unfixed p x)
-from-pick (suc zero) p x r = from-busiest p (unfixed p x)
+from-pick (suc zero) p x r = from-highest (ruleCount p) (unfixed p x)
 from-pick (suc (suc k)) p x r =
     from-else (unfixed p x) (find (passes r) (unfixed p x)) (head? (unfixed p x)) (among-find (passes r) (unfixed p x)) (from-head (unfixed p x))
 
@@ -258,7 +258,7 @@ pub explores : (b : List ℕ) → Accepted b → (s t pick order : ℕ) → Expl
 explores b ok s t pick order = record {
   bytes = b;
   accepted = ok;
-  plan-is = refl;
+  belts-are = refl;
   picks = picks-unfixed pick (planOf b);
   picks-one = picks-one pick (planOf b);
 }

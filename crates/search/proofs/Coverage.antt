@@ -21,7 +21,7 @@ use mathlib.Core.List.{List, [], _∷_, List·Memᴰ, List·Memᴰ·head, List·
 use native.Mathlib.Omega.{arith}
 use native.Mathlib.Numerals.{add-one}
 use lib.ListN.{length}
-use Rattle.plan.specs.Plan.{Belt, Plan, named}
+use Rattle.plan.specs.Plan.{Belt, named, planOf}
 use Rattle.plan.proofs.Lists.{test}
 use Rattle.route.specs.Routes.{IsRoute, before}
 use Rattle.route.specs.Subproblems.{Subproblem, admits, relaxed}
@@ -30,10 +30,11 @@ use Rattle.route.proofs.Firsts.{relaxed-some, relaxed-none}
 use Rattle.route.proofs.Lowest.{lowest-claim}
 use Rattle.search.specs.declared.state.Ending.the-variants.{Found, Nothing, Spent}
 use Rattle.search.specs.Branching.{unfixed, children}
-use Rattle.search.specs.Search.{Problem, State, free, begun, branched, tested, settingOf, compared, improves, considered, takeAt, openNext, stateAt, run}
-use Rattle.search.specs.Claims.{IsPermitted, Explores, Covers, CoverageClaim, BoundClaim, AnyChoiceClaim}
+use Rattle.search.specs.Search.{Problem, State, free, begun, branched, tested, settingOf, compared, improves, considered, takeAt, openNext, stateAt, run, takenOff}
+use Rattle.search.specs.Claims.{Explores, Covers, CoverageClaim, BoundClaim, AnyChoiceClaim, Permits}
 use Rattle.search.proofs.Branches.{children-admit, settled}
 use Rattle.search.proofs.Weights.{tree, tree-pow, tree-some, size, weight, weight-some, weight-free, weight-taken, weight-children}
+use Rattle.search.proofs.Belts.{same-route, same-relaxed}
 use Rattle.search.proofs.Steps.{along, state-opened, run-over, run-found, run-nothing, run-counted, run-complete, run-spent-at, run-spent, run-larger}
 
 -- ---- the subproblem that is taken
@@ -56,22 +57,19 @@ in-taken (suc n) x (z ∷ zs) {y} m = go (List·Memᴰ·cases-cons m) (λ k. in-
 
 -- ---- the invariant
 
--- the routes, and the permitted routes, that a search is about
+-- the routes that a search is about
 abbrev Routed : Problem → List Belt → Type 0
 Routed q w = IsRoute (q .plan) (q .s) (q .t) w
 
-abbrev Allowed : Problem → List Belt → Type 0
-Allowed q w = IsPermitted (q .plan) (q .s) (q .t) w
-
 record Sound (q : Problem) (st : State) : Type 0 where
-  permitted : (b : List Belt) → st .best ≡ some b → Allowed q b
-  covered : (w : List Belt) → Allowed q w → Covers st w
+  permitted : (b : List Belt) → st .best ≡ some b → Permits q b
+  covered : (w : List Belt) → Permits q w → Covers st w
   bound : st .opened + weight (q .plan) (st .waiting) ≤ tree (length (named (q .plan)))
 
 -- the same of a state from which x was taken off and counted: it is sound but for x
 record Without (q : Problem) (x : Subproblem) (st : State) : Type 0 where
-  permitted : (b : List Belt) → st .best ≡ some b → Allowed q b
-  covered : (w : List Belt) → Allowed q w → Covers st w ⊎ (admits x w ≡ true)
+  permitted : (b : List Belt) → st .best ≡ some b → Permits q b
+  covered : (w : List Belt) → Permits q w → Covers st w ⊎ (admits x w ≡ true)
   bound : st .opened + (size (q .plan) x + weight (q .plan) (st .waiting)) ≤ suc (tree (length (named (q .plan))))
 
 -- covered by the best alone
@@ -92,29 +90,34 @@ sound-begun q = record {
 -- ---- steps 3 to 6
 
 module _ (q : Problem) (ex : Explores q) where
+  -- a route of the problem is one of the accepted plan with the same belts, and the other way round
+  routed : (w : List Belt) → Routed q w → IsRoute (planOf (ex .bytes)) (q .s) (q .t) w
+  routed w i = subst (λ (T : Type 0). T) (same-route (q .plan) (planOf (ex .bytes)) (ex .belts-are) (q .s) (q .t) w) i
+
+  routed-back : (w : List Belt) → IsRoute (planOf (ex .bytes)) (q .s) (q .t) w → Routed q w
+  routed-back w i = subst (λ (T : Type 0). T) (sym (same-route (q .plan) (planOf (ex .bytes)) (ex .belts-are) (q .s) (q .t) w)) i
+
+  relaxed-there : (x : Subproblem) → relaxed (planOf (ex .bytes)) (q .s) (q .t) x ≡ relaxed (q .plan) (q .s) (q .t) x
+  relaxed-there x = sym (same-relaxed (q .plan) (planOf (ex .bytes)) (ex .belts-are) (q .s) (q .t) x)
+
   -- what the relaxed route is
   relaxed-least : (x : Subproblem) (r : List Belt) → relaxed (q .plan) (q .s) (q .t) x ≡ some r
       → Routed q r × (admits x r ≡ true)
       × ((w : List Belt) → Routed q w → admits x w ≡ true → before w r ≡ false)
-  relaxed-least x r =
-      subst (λ (p : Plan). relaxed p (q .s) (q .t) x ≡ some r → IsRoute p (q .s) (q .t) r × (admits x r ≡ true)
-      × ((w : List Belt) → IsRoute p (q .s) (q .t) w → admits x w ≡ true → before w r ≡ false)) (sym (ex .plan-is))
-      (relaxed-some (ex .accepted) (q .s) (q .t) x r)
+  relaxed-least x r h =
+      let (i, a, least) = relaxed-some (ex .accepted) (q .s) (q .t) x r (relaxed-there x ∙ h) in
+      (routed-back r i, a, λ w j c. least w (routed w j) c)
 
   no-admitted : (x : Subproblem) → relaxed (q .plan) (q .s) (q .t) x ≡ none
       → (w : List Belt) → Routed q w → admits x w ≡ true → ⊥
-  no-admitted x =
-      subst (λ (p : Plan). relaxed p (q .s) (q .t) x ≡ none → (w : List Belt) → IsRoute p (q .s) (q .t) w → admits x w ≡ true → ⊥)
-      (sym (ex .plan-is)) (relaxed-none (ex .accepted) (q .s) (q .t) x)
+  no-admitted x h w i a = relaxed-none (ex .accepted) (q .s) (q .t) x (relaxed-there x ∙ h) w (routed w i) a
 
   -- a route that does not come before b is b or comes after it
   behind : (b w : List Belt) → Routed q b → Routed q w → before w b ≡ false → ByBest (some b) w
   behind b w i j h = go (test (before b w))
     where
       same : before b w ≡ false → b ≡ w
-      same k =
-          subst (λ (p : Plan). IsRoute p (q .s) (q .t) b → IsRoute p (q .s) (q .t) w → b ≡ w) (sym (ex .plan-is))
-          (λ i j. before-total (ex .accepted) (q .s) (q .t) b w i j k h) i j
+      same k = before-total (ex .accepted) (q .s) (q .t) b w (routed b i) (routed w j) k h
 
       go : (before b w ≡ true) ⊎ (before b w ≡ false) → ByBest (some b) w
       go (inl k) = inr (b, refl, k)
@@ -122,14 +125,14 @@ module _ (q : Problem) (ex : Explores q) where
 
   module _ (x : Subproblem) (st : State) (sound : Without q x st) where
     -- x is dropped where what it admits is covered without it
-    dropped : ((w : List Belt) → Allowed q w → admits x w ≡ true → Covers st w) → Sound q st
+    dropped : ((w : List Belt) → Permits q w → admits x w ≡ true → Covers st w) → Sound q st
     dropped h = record {
       permitted = sound .permitted;
       covered = λ w i. go w i (sound .covered w i);
       bound = omega (arith, sound .bound, tree-some (length (unfixed (q .plan) x)));
     }
       where
-        go : (w : List Belt) → Allowed q w → Covers st w ⊎ (admits x w ≡ true) → Covers st w
+        go : (w : List Belt) → Permits q w → Covers st w ⊎ (admits x w ≡ true) → Covers st w
         go w i (inl c) = c
         go w i (inr a) = h w i a
 
@@ -162,7 +165,7 @@ module _ (q : Problem) (ex : Explores q) where
           let (j, c, least) = relaxed-least x r is in
           let (u, works, first) = lowest-claim (q .plan .rules) (q .plan .modes) r .0 σ .0 k in
           record {
-            permitted = λ w h. subst (Allowed q) (Option·some-injective r w h) (j, (σ, u, works));
+            permitted = λ w h. subst (Permits q) (Option·some-injective r w h) (j, (σ, u, works));
             covered = λ w i. go w (λ a. behind r w j (i .0) (least w (i .0) a)) (sound .covered w i);
             bound = omega (arith, sound .bound, tree-some (length (unfixed (q .plan) x)));
           }
@@ -182,7 +185,7 @@ module _ (q : Problem) (ex : Explores q) where
       sound-compared true k = sound-tested k (settingOf (q .plan) r) refl
       sound-compared false k = dropped (λ w i a. by-best st w (go w i a (st .best) refl k))
         where
-          go : (w : List Belt) → Allowed q w → admits x w ≡ true
+          go : (w : List Belt) → Permits q w → admits x w ≡ true
               → (o : Option (List Belt)) → st .best ≡ o → improves r o ≡ false → ByBest (st .best) w
           go w i a none e h = absurd (true≢false h)
           go w i a (some b) e h =
@@ -197,13 +200,9 @@ module _ (q : Problem) (ex : Explores q) where
 
   -- ---- any of those that wait is opened
 
-  -- the state with one taken off, so that the others wait, and counted
-  abbrev counted : State → List Subproblem → State
-  counted st others = record { waiting = others; opened = suc (st .opened); best = st .best }
-
   -- it is sound but for the one that was taken, whichever that is
   taken-off : (n : ℕ) (st : State) (x : Subproblem) (xs : List Subproblem) → st .waiting ≡ x ∷ xs → Sound q st
-      → Without q (takeAt n x xs .0) (counted st (takeAt n x xs .1))
+      → Without q (takeAt n x xs .0) (takenOff st (takeAt n x xs .1))
   taken-off n st x xs e sound = record {
     permitted = sound .permitted;
     covered = λ w i. go w (sound .covered w i);
@@ -214,11 +213,11 @@ module _ (q : Problem) (ex : Explores q) where
   }
     where
       waits : (w : List Belt) (y : Subproblem) → admits y w ≡ true → (y ≡ takeAt n x xs .0) ⊎ List·Memᴰ y (takeAt n x xs .1)
-          → Covers (counted st (takeAt n x xs .1)) w ⊎ (admits (takeAt n x xs .0) w ≡ true)
+          → Covers (takenOff st (takeAt n x xs .1)) w ⊎ (admits (takeAt n x xs .0) w ≡ true)
       waits w y a (inl h) = inr (subst (λ (z : Subproblem). admits z w ≡ true) h a)
       waits w y a (inr m) = inl (inr (inr (y, m, a)))
 
-      go : (w : List Belt) → Covers st w → Covers (counted st (takeAt n x xs .1)) w ⊎ (admits (takeAt n x xs .0) w ≡ true)
+      go : (w : List Belt) → Covers st w → Covers (takenOff st (takeAt n x xs .1)) w ⊎ (admits (takeAt n x xs .0) w ≡ true)
       go w (inl h) = inl (inl h)
       go w (inr (inl h)) = inl (inr (inl h))
       go w (inr (inr (y, m, a))) = waits w y a (in-taken n x xs (subst (List·Memᴰ y) e m))
@@ -226,7 +225,7 @@ module _ (q : Problem) (ex : Explores q) where
   sound-next : (st : State) (x : Subproblem) (xs : List Subproblem) → st .waiting ≡ x ∷ xs → Sound q st → Sound q (openNext q st x xs)
   sound-next st x xs e sound =
       let n = q .choose (x ∷ xs) in
-      sound-considered (takeAt n x xs .0) (counted st (takeAt n x xs .1)) (taken-off n st x xs e sound)
+      sound-considered (takeAt n x xs .0) (takenOff st (takeAt n x xs .1)) (taken-off n st x xs e sound)
       (relaxed (q .plan) (q .s) (q .t) (takeAt n x xs .0)) refl
 
   -- every state of the sequence is sound
@@ -249,7 +248,7 @@ module _ (q : Problem) (ex : Explores q) (budget : ℕ) where
   at-end = sound-at q ex (run q budget .state .opened) (run q budget .state) (run-counted q budget)
 
   -- where nothing waits any more, the best covers every permitted route
-  covered-by-best : (run q budget .ending ≡ Spent → ⊥) → (w : List Belt) → Allowed q w → ByBest (run q budget .state .best) w
+  covered-by-best : (run q budget .ending ≡ Spent → ⊥) → (w : List Belt) → Permits q w → ByBest (run q budget .state .best) w
   covered-by-best unspent w i = go (at-end .covered w i)
     where
       go : Covers (run q budget .state) w → ByBest (run q budget .state .best) w
@@ -257,8 +256,8 @@ module _ (q : Problem) (ex : Explores q) (budget : ℕ) where
       go (inr (inl h)) = inr h
       go (inr (inr (y, m, a))) = absurd (List·Memᴰ·not-nil (subst (List·Memᴰ y) (run-complete q budget unspent) m))
 
-  found-first : run q budget .ending ≡ Found → (r : List Belt) × (run q budget .state .best ≡ some r) × Allowed q r
-      × ((w : List Belt) → Allowed q w → (w ≡ r → ⊥) → before r w ≡ true)
+  found-first : run q budget .ending ≡ Found → (r : List Belt) × (run q budget .state .best ≡ some r) × Permits q r
+      × ((w : List Belt) → Permits q w → (w ≡ r → ⊥) → before r w ≡ true)
   found-first h =
       let (r, e) = run-found q budget h in
       (r, e, at-end .permitted r e, λ w i d. go r w e d (covered-by-best unspent w i))
@@ -270,7 +269,7 @@ module _ (q : Problem) (ex : Explores q) (budget : ℕ) where
       go r w e d (inl k) = absurd (d (Option·some-injective w r (sym k ∙ e)))
       go r w e d (inr (b, k, l)) = subst (λ (v : List Belt). before v w ≡ true) (Option·some-injective b r (sym k ∙ e)) l
 
-  none-found : run q budget .ending ≡ Nothing → (w : List Belt) → Allowed q w → ⊥
+  none-found : run q budget .ending ≡ Nothing → (w : List Belt) → Permits q w → ⊥
   none-found h w i = go (run-nothing q budget h) (covered-by-best unspent w i)
     where
       unspent : run q budget .ending ≡ Spent → ⊥

@@ -17,7 +17,7 @@ use lib.ListN.{length, getD}
 use Rattle.plan.specs.Plan.{Belt, Plan, named}
 use Rattle.route.specs.Subproblems.{Subproblem, relaxed}
 use Rattle.search.specs.Branching.{unfixed, fixedCount, requiring, forbidding, children}
-use Rattle.search.specs.Search.{Problem, State, free, begun, branched, tested, settingOf, compared, improves, considered, takeAt, openTaken, openNext, stateAt}
+use Rattle.search.specs.Search.{Problem, State, free, begun, branched, tested, settingOf, compared, improves, considered, takenOff, takeAt, openTaken, openNext, stateAt}
 use Rattle.search.specs.Values.{Deep}
 use Rattle.search.specs.Claims.{DepthClaim}
 use Rattle.search.proofs.Branches.{fixed-unfixed, fixed-more}
@@ -74,9 +74,8 @@ module _ (q : Problem) (picks : Picks q) (newest : (xs : List Subproblem) → q 
       → Deep (q .plan) (openNext q st x xs .waiting)
   deep-next st x xs w deep =
       let (room, older) = subst (Deep (q .plan)) w deep in
-      let left : State = record { waiting = xs; opened = suc (st .opened); best = st .best } in
       subst (λ (k : ℕ). Deep (q .plan) (openTaken q st (takeAt k x xs) .waiting)) (sym (newest (x ∷ xs)))
-      (deep-considered q picks x left older room (relaxed (q .plan) (q .s) (q .t) x))
+      (deep-considered q picks x (takenOff st xs) older room (relaxed (q .plan) (q .s) (q .t) x))
 
   deep-at : (n : ℕ) (st : State) → stateAt q n ≡ some st → Deep (q .plan) (st .waiting)
   deep-at = along q (λ (n : ℕ) (st : State). Deep (q .plan) (st .waiting)) (deep-begun (q .plan)) (λ n. deep-next)

@@ -1,4 +1,5 @@
 -- Laws, each file after those that it rests on; the claims are gathered in Claims.
+pub mod Belts
 pub mod Branches
 pub mod Steps
 pub mod Weights

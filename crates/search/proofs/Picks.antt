@@ -13,7 +13,7 @@
 --   route-mask        a known route passes the belts whose places are gathered from it
 --
 -- The unfixed belts are those at the unfixed places, in the same order. So whatever is chosen among the ones by their order and their counts
--- is chosen among the others at the same position: Told says of two choices that they are none and none, or a belt and its place.
+-- is chosen among the others at the same position: Matched says of two choices that they are none and none, or a belt and its place.
 -- Assumes nothing.
 use mathlib.Core.Path.{_≡_, refl, sym, _∙_, ap, subst}
 use mathlib.Core.Bool.{Bool, true, false, not, _||_}
@@ -40,9 +40,9 @@ use Rattle.route.specs.Permission.{passes, find, orElse}
 use Rattle.route.specs.Values.{idsOf, Known, routeIn, inMask, LowPlace, fixedIn, subproblemIn, namedPlaces}
 use Rattle.route.proofs.ByName.{passes-names, known-route}
 use Rattle.route.proofs.Fixed.{fixed-mem, place-low, looked-up}
-use Rattle.search.specs.Branching.{isFixed, unfixed, ruleCount, busier, busiest, otherwise, pickOf}
+use Rattle.search.specs.Branching.{isFixed, unfixed, ruleCount, higher, highest, otherwise, pickOf}
 use Rattle.search.specs.Values.{countsOf, pickedPlace}
-use Rattle.search.specs.Inner.{Low, gatheredIn, unfixedAt, unfixedPlaces, atPlace, Below, busierAt, moreAt, busiestAt}
+use Rattle.search.specs.Inner.{Low, gatheredIn, unfixedAt, unfixedPlaces, atPlace, Below, countAt, busierAt}
 use Rattle.search.proofs.Counting.{stands, gathered-at, counts-at}
 
 -- ---- the first place from k on that is kept and passes
@@ -90,7 +90,7 @@ module _ (xs : List ℕ) where
   combined-first none = refl
   combined-first (some k) = refl
 
-  pub combined-next : (q : Place) (k : ℕ) (o : Option ℕ) → combined q (moreAt xs k o) ≡ combined (busierAt xs q k) o
+  pub combined-next : (q : Place) (k : ℕ) (o : Option ℕ) → combined q (higher (countAt xs) k o) ≡ combined (busierAt xs q k) o
   combined-next q k none = refl
   combined-next Unnamed k (some j) = go (ltb (at k) (at j))
     where
@@ -122,54 +122,54 @@ else-none (some j) q h = let z : _≡_ {A = ℕ} 0 1 = cc in absurd (omega arith
 abbrev belt : List ℕ → ℕ → ℕ
 belt ns k = getD ns k 0
 
-data Told (ns : List ℕ) : Option ℕ → Option ℕ → Type 0 where
-  neither : Told ns none none
-  one : (k : ℕ) → k < length ns → Told ns (some (belt ns k)) (some k)
+data Matched (ns : List ℕ) : Option ℕ → Option ℕ → Type 0 where
+  neither : Matched ns none none
+  one : (k : ℕ) → k < length ns → Matched ns (some (belt ns k)) (some k)
 
 -- places of belts of ns
 abbrev Inside : List ℕ → List ℕ → Type 0
 Inside ns ks = (k : ℕ) → List·Memᴰ k ks → k < length ns
 
 module _ {ns : List ℕ} where
-  told-place : Rises ns → {o q : Option ℕ} → Told ns o q → atPlace q ≡ pickedPlace ns o
-  told-place rises neither = refl
-  told-place rises (one k l) = sym (stands rises k l .1)
+  matched-place : Rises ns → {o q : Option ℕ} → Matched ns o q → atPlace q ≡ pickedPlace ns o
+  matched-place rises neither = refl
+  matched-place rises (one k l) = sym (stands rises k l .1)
 
-  told-else : {o q u v : Option ℕ} → Told ns o q → Told ns u v → Told ns (otherwise o u) (otherwise q v)
-  told-else neither h = h
-  told-else (one k l) h = one k l
+  matched-else : {o q u v : Option ℕ} → Matched ns o q → Matched ns u v → Matched ns (otherwise o u) (otherwise q v)
+  matched-else neither h = h
+  matched-else (one k l) h = one k l
 
-  told-head : (ks : List ℕ) → Inside ns ks → Told ns (head? (map (belt ns) ks)) (head? ks)
-  told-head [] h = neither
-  told-head (k ∷ ks) h = one k (h k (List·Memᴰ·head refl))
+  matched-head : (ks : List ℕ) → Inside ns ks → Matched ns (head? (map (belt ns) ks)) (head? ks)
+  matched-head [] h = neither
+  matched-head (k ∷ ks) h = one k (h k (List·Memᴰ·head refl))
 
-  told-find : (f g : ℕ → Bool) (ks : List ℕ) → Inside ns ks → ((k : ℕ) → k < length ns → f (belt ns k) ≡ g k)
-      → Told ns (find f (map (belt ns) ks)) (find g ks)
-  told-find f g [] h same = neither
-  told-find f g (k ∷ ks) h same =
+  matched-find : (f g : ℕ → Bool) (ks : List ℕ) → Inside ns ks → ((k : ℕ) → k < length ns → f (belt ns k) ≡ g k)
+      → Matched ns (find f (map (belt ns) ks)) (find g ks)
+  matched-find f g [] h same = neither
+  matched-find f g (k ∷ ks) h same =
       let here = h k (List·Memᴰ·head refl) in
-      let rest = told-find f g ks (λ j m. h j (List·Memᴰ·tail m)) same in
-      subst (λ (t : Bool). Told ns (orElse t (belt ns k) (find f (map (belt ns) ks))) (orElse (g k) k (find g ks)))
+      let rest = matched-find f g ks (λ j m. h j (List·Memᴰ·tail m)) same in
+      subst (λ (t : Bool). Matched ns (orElse t (belt ns k) (find f (map (belt ns) ks))) (orElse (g k) k (find g ks)))
       (sym (same k here)) (go (g k) here rest)
     where
-      go : (t : Bool) → k < length ns → {o q : Option ℕ} → Told ns o q → Told ns (orElse t (belt ns k) o) (orElse t k q)
+      go : (t : Bool) → k < length ns → {o q : Option ℕ} → Matched ns o q → Matched ns (orElse t (belt ns k) o) (orElse t k q)
       go true l rest = one k l
       go false l rest = rest
 
-  told-busiest : (p : Plan) (xs : List ℕ) (ks : List ℕ) → Inside ns ks → ((k : ℕ) → k < length ns → getD xs k 0 ≡ ruleCount p (belt ns k))
-      → Told ns (busiest p (map (belt ns) ks)) (busiestAt xs ks)
-  told-busiest p xs [] h same = neither
-  told-busiest p xs (k ∷ ks) h same = go (h k (List·Memᴰ·head refl)) (told-busiest p xs ks (λ j m. h j (List·Memᴰ·tail m)) same)
+  matched-busiest : (p : Plan) (xs : List ℕ) (ks : List ℕ) → Inside ns ks → ((k : ℕ) → k < length ns → getD xs k 0 ≡ ruleCount p (belt ns k))
+      → Matched ns (highest (ruleCount p) (map (belt ns) ks)) (highest (countAt xs) ks)
+  matched-busiest p xs [] h same = neither
+  matched-busiest p xs (k ∷ ks) h same = go (h k (List·Memᴰ·head refl)) (matched-busiest p xs ks (λ j m. h j (List·Memᴰ·tail m)) same)
     where
       of-two : (t : Bool) (j : ℕ) → k < length ns → j < length ns
-          → Told ns (elim t [ true ↦ some (belt ns j) | false ↦ some (belt ns k) ]) (elim t [ true ↦ some j | false ↦ some k ])
+          → Matched ns (elim t [ true ↦ some (belt ns j) | false ↦ some (belt ns k) ]) (elim t [ true ↦ some j | false ↦ some k ])
       of-two true j l u = one j u
       of-two false j l u = one k l
 
-      go : k < length ns → {o q : Option ℕ} → Told ns o q → Told ns (busier p (belt ns k) o) (moreAt xs k q)
+      go : k < length ns → {o q : Option ℕ} → Matched ns o q → Matched ns (higher (ruleCount p) (belt ns k) o) (higher (countAt xs) k q)
       go l neither = one k l
       go l (one j u) =
-          subst (λ (t : Bool). Told ns (busier p (belt ns k) (some (belt ns j))) (elim t [ true ↦ some j | false ↦ some k ]))
+          subst (λ (t : Bool). Matched ns (higher (ruleCount p) (belt ns k) (some (belt ns j))) (elim t [ true ↦ some j | false ↦ some k ]))
           (λ i. ltb (sym (same k l) i) (sym (same j u) i)) (of-two (ltb (ruleCount p (belt ns k)) (ruleCount p (belt ns j))) j l u)
 
 -- ---- the unfixed belts are those at the unfixed places
@@ -218,21 +218,21 @@ module _ (b : List ℕ) (f : Fixings) where
       ∙ keep-belts ns loose (unfixedAt f) (upto 0 (length ns)) (all-inside ns)
       (λ k l i. not (fixed-at ns rises (f .required) k l i || fixed-at ns rises (f .forbidden) k l i))
 
-  told-lowest : Told ns (head? (unfixed (planOf b) (subproblemIn b f))) (head? free)
-  told-lowest = subst (λ (es : List ℕ). Told ns (head? es) (head? free)) (sym free-belts) (told-head free (free-inside ns f))
+  matched-lowest : Matched ns (head? (unfixed (planOf b) (subproblemIn b f))) (head? free)
+  matched-lowest = subst (λ (es : List ℕ). Matched ns (head? es) (head? free)) (sym free-belts) (matched-head free (free-inside ns f))
 
   module _ (r : List Belt) where
     pub picks-lowest : (k : ℕ) → k ≡ 0 → atPlace (head? free) ≡ pickedPlace ns (pickOf k (planOf b) (subproblemIn b f) r)
-    picks-lowest zero h = told-place rises told-lowest
+    picks-lowest zero h = matched-place rises matched-lowest
     picks-lowest (suc k) h = absurd (omega arith)
 
-    pub picks-busiest : (k : ℕ) → k ≡ 1 → atPlace (busiestAt (countsOf b .rules) free) ≡ pickedPlace ns (pickOf k (planOf b) (subproblemIn b f) r)
+    pub picks-busiest : (k : ℕ) → k ≡ 1 → atPlace (highest (countAt (countsOf b .rules)) free) ≡ pickedPlace ns (pickOf k (planOf b) (subproblemIn b f) r)
     picks-busiest zero h = absurd (omega arith)
     picks-busiest (suc zero) h =
         let xs = countsOf b .rules in
-        told-place rises
-        (subst (λ (es : List ℕ). Told ns (busiest (planOf b) es) (busiestAt xs free)) (sym free-belts)
-        (told-busiest (planOf b) xs free (free-inside ns f) (counts-at b)))
+        matched-place rises
+        (subst (λ (es : List ℕ). Matched ns (highest (ruleCount (planOf b)) es) (highest (countAt xs) free)) (sym free-belts)
+        (matched-busiest (planOf b) xs free (free-inside ns f) (counts-at b)))
     picks-busiest (suc (suc k)) h = absurd (omega arith)
 
     -- `on` tells by places what r passes
@@ -241,10 +241,10 @@ module _ (b : List ℕ) (f : Fixings) where
     picks-on zero d u on same = absurd (d refl)
     picks-on (suc zero) d u on same = absurd (u refl)
     picks-on (suc (suc k)) d u on same =
-        told-place rises
-        (told-else
-        (subst (λ (es : List ℕ). Told ns (find (passes r) es) (find on free)) (sym free-belts) (told-find (passes r) on free (free-inside ns f) same))
-        told-lowest)
+        matched-place rises
+        (matched-else
+        (subst (λ (es : List ℕ). Matched ns (find (passes r) es) (find on free)) (sym free-belts) (matched-find (passes r) on free (free-inside ns f) same))
+        matched-lowest)
 
 -- ---- a known route
 

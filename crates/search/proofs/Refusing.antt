@@ -3,7 +3,6 @@
 --
 --   first-refusal      searchRefusal answers n exactly when n is the number of the first broken line, and 0 exactly when none is broken;
 --                      first-positive: that number is not 0
---   asCase k           the request as a case of the sheet check, as lines 1 to 8 see it
 --   Unrefused          no line is broken; zero-unrefused, unrefused-zero: exactly where the answer is 0
 --   limits-claim       LimitsClaim
 --   apart              0 is not 1: what an equation of two different forms comes to
@@ -32,13 +31,12 @@ use Rattle.plan.specs.Claims.{Unbroken, FirstIn}
 use Rattle.plan.proofs.Lists.{both, each, all-in, in-map, map-in}
 use Rattle.plan.proofs.First.{first-exactly, passed, none-broken}
 use Rattle.plan.proofs.Limits.{limits-accepted, accepted-limits}
-use Rattle.route.specs.Refusals.{Case, queryLines}
-use Rattle.route.specs.Values.{caseOf}
+use Rattle.route.specs.Refusals.{queryLines}
 use Rattle.route.proofs.Checked.{query-accepted, query-ends, ends-query, inside, ends-inside}
 use Rattle.search.specs.declared.state.Ending.{Ending}
 use Rattle.search.specs.declared.state.Ending.the-variants.{GoesOn, Found, Nothing, Spent}
 use Rattle.search.specs.Search.{Turn, run}
-use Rattle.search.specs.Answers.{Request, onCheck, broken9, broken10, searchLines, searchRefusal, Outcome, refused, route, nothing, spent, endingOf, ended, problemIn, unlessRefused, outcome, outAfter}
+use Rattle.search.specs.Answers.{Request, asCase, onCheck, broken9, broken10, line9, line10, searchLines, searchRefusal, Outcome, refused, route, nothing, spent, endingOf, ended, problemIn, unlessRefused, outcome, outAfter}
 use Rattle.search.specs.Claims.{RefusedClaim, InLimits, LimitsClaim, Answered, UnchangedClaim}
 
 -- ---- the first broken line
@@ -58,16 +56,10 @@ first-positive k n f =
 
 -- ---- what unbroken lines say
 
-abbrev asCase : Request → Case
-asCase k = caseOf (k .plan) (k .query .trip) []
-
 record Unrefused (k : Request) : Type 0 where
   query : Unbroken queryLines (asCase k)
   fine-9 : broken9 k ≡ false
   fine-10 : broken10 k ≡ false
-
-abbrev ownLines : List (Line Request)
-ownLines = record { number = 9; broken = broken9 } ∷ record { number = 10; broken = broken10 } ∷ []
 
 module _ (k : Request) where
   zero-unrefused : searchRefusal k ≡ 0 → Unrefused k
@@ -75,7 +67,7 @@ module _ (k : Request) where
   zero-unrefused e =
       let h = passed searchLines k refl e in
       record {
-        query = λ l m. h (onCheck l) (Memᴰ·append-left ownLines (in-map onCheck m));
+        query = λ l m. h (onCheck l) (Memᴰ·append-left (line9 ∷ line10 ∷ []) (in-map onCheck m));
         fine-9 = h _ (Memᴰ·append-right (map onCheck queryLines) (List·Memᴰ·head refl));
         fine-10 = h _ (Memᴰ·append-right (map onCheck queryLines) (List·Memᴰ·tail (List·Memᴰ·head refl)));
       }
@@ -87,10 +79,10 @@ module _ (k : Request) where
       Fine : Line Request → Type 0
       Fine l = l .broken k ≡ false
 
-      own : (l : Line Request) → List·Memᴰ l ownLines → Fine l
+      own : (l : Line Request) → List·Memᴰ l (line9 ∷ line10 ∷ []) → Fine l
       own = each Fine (u .fine-9) (each Fine (u .fine-10) (λ l m. absurd (List·Memᴰ·not-nil m)))
 
-      go : (l : Line Request) → List·Memᴰ l (map onCheck queryLines) ⊎ List·Memᴰ l ownLines → Fine l
+      go : (l : Line Request) → List·Memᴰ l (map onCheck queryLines) ⊎ List·Memᴰ l (line9 ∷ line10 ∷ []) → Fine l
       go l (inl m) = let (x, n, q) = map-in onCheck queryLines m in ap (λ (y : Line Request). y .broken k) q ∙ u .query x n
       go l (inr m) = own l m
 

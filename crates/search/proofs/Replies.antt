@@ -26,7 +26,7 @@ use Rattle.plan.proofs.First.{front-first, on-broken, on-unbroken, past, passed
 use Rattle.route.specs.declared.path.Route.{Route}
 use Rattle.route.specs.Routes.{wrongEnds, cost}
 use Rattle.route.specs.Sheets.{sheetOf}
-use Rattle.route.specs.Refusals.{Case, onPlan, broken8}
+use Rattle.route.specs.Refusals.{onPlan, broken8}
 use Rattle.route.specs.Values.{idsOf, Known, routeIn}
 use Rattle.route.proofs.ByName.{known-names}
 use Rattle.route.proofs.Checked.{ends-wrong, ends-fine}
@@ -36,7 +36,7 @@ use Rattle.search.specs.declared.state.Ending.{Ending}
 use Rattle.search.specs.declared.state.Ending.the-variants.{Found}
 use Rattle.search.specs.declared.query.Query.{Query}
 use Rattle.search.specs.Search.{Turn, settingOf, run}
-use Rattle.search.specs.Answers.{Request, onCheck, wrongQuery, broken9, broken10, searchRefusal, route, orZero, endingOf, ended, problemIn, unlessRefused, outcome, Reply, reply, Told}
+use Rattle.search.specs.Answers.{Request, asCase, onCheck, wrongQuery, broken9, broken10, line9, line10, searchRefusal, route, orZero, endingOf, ended, problemIn, unlessRefused, outcome, Reply, reply, Told}
 use Rattle.search.specs.Values.{bestIn, turnIn, requestOf}
 use Rattle.search.specs.Inner.{bestOf}
 use Rattle.search.proofs.Steps.{run-found}
@@ -77,21 +77,12 @@ module _ (b : List ℕ) (q : Query) (v : Stepped) (same : turnIn b v ≡ run (pr
 
 -- ---- the first broken line
 
--- lines 1 to 7, and 8, 9 and 10, as lines about requests
+-- lines 1 to 7, and 8, as lines about requests
 abbrev front : List (Line Request)
 front = map onCheck (map onPlan planLines)
 
 abbrev line8 : Line Request
 line8 = onCheck (record { number = 8; broken = broken8 })
-
-abbrev line9 : Line Request
-line9 = record { number = 9; broken = broken9 }
-
-abbrev line10 : Line Request
-line10 = record { number = 10; broken = broken10 }
-
-abbrev case : Request → Case
-case k = record { plan = k .plan; s = k .query .trip .s; t = k .query .trip .t; sheet = [] }
 
 pub plan-refused : (k : Request) → (refusal (k .plan) ≡ 0 → ⊥) → searchRefusal k ≡ refusal (k .plan)
 unfolding refusal searchRefusal
@@ -107,11 +98,11 @@ module _ (k : Request) (ok : Accepted (k .plan)) where
   behind = past front (line8 ∷ line9 ∷ line10 ∷ []) k (passed front k refl unbroken)
 
   pub refused-8 : wrongEnds (planOf (k .plan)) (k .query .trip .s) (k .query .trip .t) ≡ true → searchRefusal k ≡ 8
-  refused-8 e = behind ∙ on-broken line8 (line9 ∷ line10 ∷ []) k (ends-wrong (case k) e)
+  refused-8 e = behind ∙ on-broken line8 (line9 ∷ line10 ∷ []) k (ends-wrong (asCase k) e)
 
   module _ (ends : wrongEnds (planOf (k .plan)) (k .query .trip .s) (k .query .trip .t) ≡ false) where
     past-8 : searchRefusal k ≡ firstBroken (line9 ∷ line10 ∷ []) k
-    past-8 = behind ∙ on-unbroken line8 (line9 ∷ line10 ∷ []) k (ends-fine (case k) ends)
+    past-8 = behind ∙ on-unbroken line8 (line9 ∷ line10 ∷ []) k (ends-fine (asCase k) ends)
 
     pub refused-9 : wrongQuery (k .query) ≡ true → searchRefusal k ≡ 9
     unfolding broken9

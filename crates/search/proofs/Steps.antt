@@ -31,7 +31,7 @@ use Rattle.plan.proofs.Lists.{test}
 use Rattle.route.specs.Subproblems.{Subproblem, relaxed}
 use Rattle.search.specs.declared.state.Ending.{Ending}
 use Rattle.search.specs.declared.state.Ending.the-variants.{GoesOn, Found, Nothing, Spent}
-use Rattle.search.specs.Search.{Problem, State, begun, branched, tested, settingOf, compared, improves, considered, takeAt, openNext, nextOf, next, stateAt}
+use Rattle.search.specs.Search.{Problem, State, begun, branched, tested, settingOf, compared, improves, considered, takeAt, openNext, nextOf, next, stateAt, takenOff}
 use Rattle.search.specs.Search.{Turn, atEnd, budgeted, stepOf, step, onward, runs, run}
 use Rattle.search.specs.Claims.{WaitsAt}
 
@@ -57,8 +57,7 @@ module _ (q : Problem) (x : Subproblem) (st : State) where
 pub opens-one : (q : Problem) (st : State) (x : Subproblem) (xs : List Subproblem) → openNext q st x xs .opened ≡ suc (st .opened)
 opens-one q st x xs =
     let taken = takeAt (q .choose (x ∷ xs)) x xs in
-    let counted : State = record { waiting = taken .1; opened = suc (st .opened); best = st .best } in
-    considered-opened q (taken .0) counted (relaxed (q .plan) (q .s) (q .t) (taken .0))
+    considered-opened q (taken .0) (takenOff st (taken .1)) (relaxed (q .plan) (q .s) (q .t) (taken .0))
 
 -- ---- the sequence
 

@@ -3,10 +3,16 @@
 --
 --   Request             a plan's bytes, a query, and the length of the lent out buffer
 --   onCheck l           a line about the cases of the sheet check that is about plan, s and t alone, as a line about requests
---   broken9, broken10   the line is broken by the request
+--   asCase k            the request as a case of the sheet check, without a sheet
+--   wrongQuery q        pick, order or budget of the query q are wrong
+--   broken9, broken10   the line is broken by the request; line9, line10: with its number
 --   searchLines         lines 1 to 10, in the order in which they count
 --   searchRefusal k     the number of the first broken one, or 0
 --   Outcome             a refusal; or a route's belts, cost and setting, with the count; or none, or spent, with the count
+--   endingOf p n best e what each ending stands for, after n openings with this best (bestRoute: its belts, cost and setting); ended p v:
+--                       of a whole run
+--   problemIn b q       the problem of a query about the plan b
+--   unlessRefused n k   the refusal n, or with 0 what the run comes to
 --   outcome k           WHAT THE REQUEST COMES TO
 --   Reply, replyTo o    the same in numbers, without what stands in the buffer: that of the refusal, or 0 for a route, 100 for none and 101
 --                       for spent; the count; the length of the sheet. What a refusal lacks is 0
@@ -28,6 +34,7 @@ use Rattle.plan.specs.Refusals.{Line, firstBroken}
 use Rattle.route.specs.Routes.{cost}
 use Rattle.route.specs.Sheets.{sheetOf}
 use Rattle.route.specs.Refusals.{Case, queryLines}
+use Rattle.route.specs.Values.{caseOf}
 use Rattle.search.specs.declared.query.Query.{Query}
 use Rattle.search.specs.declared.entry.Answer.{Answer}
 use Rattle.search.specs.declared.entry.Answer.the-variants.{Found, Nothing, Spent, WrongSize, WrongHeader, WrongRecord, WrongChain, BackwardBelt, WrongLiteral, ManyNamed, WrongEnds, WrongQuery, ShortBuffer}
@@ -43,11 +50,11 @@ pub record Request : Type 0 where
 -- ---- refusals
 
 -- lines 1 to 8 do not look at the sheet
+abbrev pub asCase : Request → Case
+asCase k = caseOf (k .plan) (k .query .trip) []
+
 abbrev pub onCheck : Line Case → Line Request
-onCheck l = record {
-  number = l .number;
-  broken = λ (k : Request). l .broken (record { plan = k .plan; s = k .query .trip .s; t = k .query .trip .t; sheet = [] });
-}
+onCheck l = record { number = l .number; broken = λ (k : Request). l .broken (asCase k) }
 
 -- 9: pick over 2, order over 1, budget 0
 abbrev pub wrongQuery : Query → Bool
@@ -60,8 +67,14 @@ broken9 k = wrongQuery (k .query)
 unfoldable pub broken10 : Request → Bool
 broken10 k = ltb (k .room) 3072
 
+abbrev pub line9 : Line Request
+line9 = record { number = 9; broken = broken9 }
+
+abbrev pub line10 : Line Request
+line10 = record { number = 10; broken = broken10 }
+
 abbrev pub searchLines : List (Line Request)
-searchLines = map onCheck queryLines ++ record { number = 9; broken = broken9 } ∷ record { number = 10; broken = broken10 } ∷ []
+searchLines = map onCheck queryLines ++ line9 ∷ line10 ∷ []
 
 unfoldable pub searchRefusal : Request → ℕ
 searchRefusal k = firstBroken searchLines k
@@ -108,10 +121,10 @@ outcome k = unlessRefused (searchRefusal k) k
 pub record Reply : Type 0 where
   pub number : ℕ
   pub opened : ℕ
-  pub length : ℕ
+  pub size : ℕ
 
 abbrev pub reply : ℕ → ℕ → ℕ → Reply
-reply n opened size = record { number = n; opened = opened; length = size }
+reply n opened size = record { number = n; opened = opened; size = size }
 
 abbrev pub replyTo : Outcome → Reply
 replyTo (refused n) = reply n 0 0

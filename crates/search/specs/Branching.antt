@@ -9,7 +9,8 @@
 --                     the children of x for belt e: it is required, and is forbidden, too
 --   children o p x e  both, the newer one first: order 0 takes the child that forbids e next, order 1 the one that requires it
 --   ruleCount p e     in how many rules belt e is; a rule that names it twice counts once
---   busiest p es      the one of the belts es that is in most rules, the first of equals
+--   highest count es  the one of the belts es with the highest count, the first of equals (higher: the same of two)
+--   otherwise o w     o, and w where o is none
 --   pickOf k p x r    pick k, of the subproblem x with the relaxed route r: 0 the lowest unfixed named belt, 1 the one in most rules, then the
 --                     lowest, 2 the lowest on the relaxed route, else the lowest; none where no named belt is unfixed
 --
@@ -53,14 +54,14 @@ children (suc o) p x e = requiring p x e ∷ forbidding p x e ∷ []
 abbrev pub ruleCount : Plan → ℕ → ℕ
 ruleCount p e = count (inRule e) (p .rules)
 
--- e, unless f is in more rules
-abbrev pub busier : Plan → ℕ → Option ℕ → Option ℕ
-busier p e none = some e
-busier p e (some f) = elim (ltb (ruleCount p e) (ruleCount p f)) [ true ↦ some f | false ↦ some e ]
+-- e, unless f has the higher count
+abbrev pub higher : (ℕ → ℕ) → ℕ → Option ℕ → Option ℕ
+higher count e none = some e
+higher count e (some f) = elim (ltb (count e) (count f)) [ true ↦ some f | false ↦ some e ]
 
-abbrev pub busiest : Plan → List ℕ → Option ℕ
-busiest p [] = none
-busiest p (e ∷ es) = busier p e (busiest p es)
+abbrev pub highest : (ℕ → ℕ) → List ℕ → Option ℕ
+highest count [] = none
+highest count (e ∷ es) = higher count e (highest count es)
 
 abbrev pub otherwise : Option ℕ → Option ℕ → Option ℕ
 otherwise (some e) o = some e
@@ -68,5 +69,5 @@ otherwise none o = o
 
 abbrev pub pickOf : ℕ → Plan → Subproblem → List Belt → Option ℕ
 pickOf zero p x r = head? (unfixed p x)
-pickOf (suc zero) p x r = busiest p (unfixed p x)
+pickOf (suc zero) p x r = highest (ruleCount p) (unfixed p x)
 pickOf (suc (suc k)) p x r = otherwise (find (passes r) (unfixed p x)) (head? (unfixed p x))

@@ -3,38 +3,44 @@
 --
 -- The demands:
 --   RefusedClaim        DEMAND 1: the answer is refusal n exactly when n is the number of the first broken line
---   LimitsClaim         DEMAND 1: the published limits (Limits, in positive words) hold exactly when nothing is refused
---   EndsClaim           DEMAND 1: then the request comes to a route, to none or to spent, by a run that has ended
+--   LimitsClaim         DEMAND 1: the published limits (InLimits, in positive words) hold exactly when nothing is refused. A budget is a number of
+--                       the interface, 64 bits wide, so its upper bound is no test
+--   EndsClaim           DEMAND 1: then the request comes to a route, to none or to spent (Answered), by a run that has ended
 --   UnchangedClaim      DEMAND 1: on a refusal, and on none and spent too, every byte of the out buffer is as it was
 --   AcceptedClaim       DEMAND 2, last clause: what a search writes is a sheet that the check accepts, and behind it no byte differs
 --   RightClaim          DEMAND 3: a request that is not refused comes to what is Right:
---     Cheapest b s t es c σ
+--     IsPermitted p s t r
+--                       r is a route from s to t and permitted
+--     Cheapest p s t es c σ
 --                       the belts es are a route from s to t that is permitted, costs c, has the lowest setting σ, and comes before every
 --                       other permitted route
 --     WaitsAt q n       the written search without a budget has a state number n, and a subproblem waits in it
+--     IsSpent o, openedOf o, withBudget k n
+--                       an outcome is spent; its count; the request with another budget
 --     Right             (1) to (6), each in its own field
 -- Laws that later changes rest on:
---   Explores q          what is asked of a problem: its plan is that of accepted bytes, and the picking rule picks an unfixed named belt
---                       while there is one
+--   Permits q r         r is a permitted route of the problem q
+--   Explores q          what is asked of a problem: the belts of its plan are those of accepted bytes (its rules may be others), and the
+--                       picking rule picks an unfixed named belt while there is one
 --   RunRight q budget   (1) to (6) for such a problem: said of the run, and proved for any choice and any picking rule
 --   AnyChoiceClaim      every such problem's run is right, whatever the budget
 --   CoverageClaim       in every state of the sequence every permitted route is the best, comes after it, or is admitted by a waiting
---                       subproblem; for any choice of the next subproblem and any picking rule
---   BoundClaim          such a sequence has no state number 2^(k+1) - 1 in which one waits
+--                       subproblem (Covers); for any choice of the next subproblem and any picking rule
+--   BoundClaim          such a sequence has no state number 2^(k+1) - 1 or higher in which one waits
 --   DepthClaim          where the newest is taken next, at most k + 1 wait, and the i-th oldest fixes at least i - 1 belts
 --   ValidClaim          a Search holds nothing beside its state
 --
 -- Assumes nothing.
 use mathlib.Core.Path.{_≡_}
-use mathlib.Core.Bool.{true, false}
+use mathlib.Core.Bool.{true}
 use mathlib.Core.Logic.{_⊎_, _↔_}
-use mathlib.Core.Option.{Option, none, some}
+use mathlib.Core.Option.{none, some}
 use Prim.Native.Nat.{ℕ, _+_, _-_, _^_, _≤_, _<_}
-use mathlib.Core.List.{List, [], _∷_, _++_, List·Memᴰ}
+use mathlib.Core.List.{List, [], List·Memᴰ}
 use lib.ListN.{length, getD, take, drop}
 use Rattle.plan.specs.Plan.{Belt, Plan, planOf, namesOf, named}
 use Rattle.plan.specs.Limits.{Limits}
-use Rattle.plan.specs.Claims.{Unbroken, FirstIn}
+use Rattle.plan.specs.Claims.{FirstIn}
 use Rattle.plan.specs.Reading.{Accepted, Bytes}
 use Rattle.route.specs.Routes.{IsRoute, cost, before}
 use Rattle.route.specs.Permission.{passes, Permitted, lowest}
@@ -42,11 +48,10 @@ use Rattle.route.specs.Subproblems.{Subproblem, admits}
 use Rattle.route.specs.Sheets.{sheetOf}
 use Rattle.route.specs.Refusals.{sheetRefusal}
 use Rattle.route.specs.Values.{caseOf}
-use Rattle.search.specs.declared.query.Query.{Query}
 use Rattle.search.specs.declared.state.Search.{Search}
 use Rattle.search.specs.declared.state.Ending.the-variants.{GoesOn, Found, Nothing, Spent}
 use Rattle.search.specs.Branching.{unfixed, fixedCount}
-use Rattle.search.specs.Search.{Problem, State, free, newest, stateAt, run}
+use Rattle.search.specs.Search.{Problem, State, free, stateAt, run}
 use Rattle.search.specs.Answers.{Request, searchLines, searchRefusal, Outcome, refused, route, nothing, spent, outcome, problemIn, outAfter}
 use Rattle.search.specs.Values.{stateIn, Valid}
 
@@ -144,10 +149,13 @@ RightClaim = (k : Request) → searchRefusal k ≡ 0 → Right k
 
 -- ---- laws for later changes
 
+abbrev pub Permits : Problem → List Belt → Type 0
+Permits q r = IsPermitted (q .plan) (q .s) (q .t) r
+
 pub record Explores (q : Problem) : Type 0 where
   pub bytes : List ℕ
   pub accepted : Accepted bytes
-  pub plan-is : q .plan ≡ planOf bytes
+  pub belts-are : q .plan .belts ≡ planOf bytes .belts
   -- what is picked is an unfixed named belt
   pub picks : (x : Subproblem) (r : List Belt) (e : ℕ) → q .pick x r ≡ some e → List·Memᴰ e (unfixed (q .plan) x)
   -- and one is picked while there is one
@@ -155,9 +163,9 @@ pub record Explores (q : Problem) : Type 0 where
 
 pub record RunRight (q : Problem) (budget : ℕ) : Type 0 where
   pub ends : run q budget .ending ≡ GoesOn → ⊥
-  pub found : run q budget .ending ≡ Found → (r : List Belt) × (run q budget .state .best ≡ some r) × IsPermitted (q .plan) (q .s) (q .t) r
-      × ((x : List Belt) → IsPermitted (q .plan) (q .s) (q .t) x → (x ≡ r → ⊥) → before r x ≡ true)
-  pub none-permitted : run q budget .ending ≡ Nothing → (r : List Belt) → IsPermitted (q .plan) (q .s) (q .t) r → ⊥
+  pub found : run q budget .ending ≡ Found → (r : List Belt) × (run q budget .state .best ≡ some r) × Permits q r
+      × ((x : List Belt) → Permits q x → (x ≡ r → ⊥) → before r x ≡ true)
+  pub none-permitted : run q budget .ending ≡ Nothing → (r : List Belt) → Permits q r → ⊥
   pub spent-when : (run q budget .ending ≡ Spent) ↔ WaitsAt q budget
   pub never-spent : 2 ^ (length (named (q .plan)) + 1) - 1 ≤ budget → run q budget .ending ≡ Spent → ⊥
   pub counted : stateAt q (run q budget .state .opened) ≡ some (run q budget .state)
@@ -173,7 +181,7 @@ Covers st r = (st .best ≡ some r) ⊎ (((b : List Belt) × (st .best ≡ some 
 
 abbrev pub CoverageClaim : Type 0
 CoverageClaim = (q : Problem) → Explores q → (n : ℕ) (st : State) → stateAt q n ≡ some st
-    → (r : List Belt) → IsPermitted (q .plan) (q .s) (q .t) r → Covers st r
+    → (r : List Belt) → Permits q r → Covers st r
 
 abbrev pub BoundClaim : Type 0
 BoundClaim = (q : Problem) → Explores q → (n : ℕ) → WaitsAt q n → n < 2 ^ (length (named (q .plan)) + 1) - 1

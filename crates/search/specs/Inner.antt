@@ -9,12 +9,15 @@
 --   unfixedAt f k         the masks f do not fix the belt at place k; unfixedPlaces f n: the first n places where that is so
 --   atPlace o             a place that was looked for, as the code has it
 --   Below q               the place q is below 48
+--   countAt xs k          the count that the array xs has for place k
 --   busierAt xs q k       the one of places q, if it is one, and k that has the higher count in xs, of equals q
---   busiestAt xs ks       the one of the places ks with the highest count, the first of equals
 -- Steps:
 --   withBoth older newer v
 --                         the Search v, with two more waiting
---   Room v q              there is room for two more, if q is a place; branchedTo f q o v: the Search v with both children of the masks f
+--   Room v q              there is room for two more, if q is a place
+--   requiringAt, forbiddingAt f q
+--                         the masks f with the place q required, and forbidden
+--   branchedTo f q o v    the Search v with both children of the masks f, in the order o
 --   Taken b v f           a Search from which the subproblem of the masks f was taken: there is room for its children
 --   Stands b v st         a valid Search that stands for the state st
 --   testedIn, openedIn    steps 4 to 6 and 3 to 6 of a query, from the state that a Search stands for
@@ -27,7 +30,7 @@ use Prim.Native.Nat.{ℕ, zero, suc, _+_, _≤_, _<_}
 use mathlib.Core.Bool.{Bool, true, false, not, _&&_, _||_}
 use mathlib.Core.Option.{Option, none, some}
 use mathlib.Core.List.{List, [], _∷_, map, List·Memᴰ}
-use lib.ListN.{length, getD, set}
+use lib.ListN.{getD, set}
 use lib.Dec.{ltb}
 use Rattle.plan.specs.declared.named.Place.{Place}
 use Rattle.plan.specs.declared.named.Place.the-variants.{At, Unnamed}
@@ -78,17 +81,12 @@ abbrev pub Below : Place → Type 0
 Below (At k) = k < 48
 Below Unnamed = Unit {0}
 
+abbrev pub countAt : List ℕ → ℕ → ℕ
+countAt xs k = getD xs k 0
+
 abbrev pub busierAt : List ℕ → Place → ℕ → Place
-busierAt xs (At j) k = elim (ltb (getD xs j 0) (getD xs k 0)) [ true ↦ At k | false ↦ At j ]
+busierAt xs (At j) k = elim (ltb (countAt xs j) (countAt xs k)) [ true ↦ At k | false ↦ At j ]
 busierAt xs Unnamed k = At k
-
-abbrev pub moreAt : List ℕ → ℕ → Option ℕ → Option ℕ
-moreAt xs k none = some k
-moreAt xs k (some j) = elim (ltb (getD xs k 0) (getD xs j 0)) [ true ↦ some j | false ↦ some k ]
-
-abbrev pub busiestAt : List ℕ → List ℕ → Option ℕ
-busiestAt xs [] = none
-busiestAt xs (k ∷ ks) = moreAt xs k (busiestAt xs ks)
 
 -- ---- steps
 

@@ -2,19 +2,21 @@
 --
 --   Problem             what a search goes by: the plan, s and t, the order of children, the belt that is picked, and which of the waiting
 --                       subproblems is taken next. That of a query is `problemOf`; the laws are about any picking rule that picks an
---                       unfixed named belt, and any choice of the next subproblem
+--                       unfixed named belt, and any choice of the next subproblem. A query takes the newest
 --   State               the subproblems that wait, newest first (the paper's pile), how many have been opened, and the best route so far
---   begun               the first state: the subproblem that fixes nothing waits, nothing is opened
+--   begun               the first state: the subproblem that fixes nothing (free) waits, nothing is opened
 --   improves r o        route r comes before the best, o, or none is held
 --   branched, tested, compared, considered q x st ..
 --                       steps 6 and 5, 4, 3 and 3, on the subproblem x that was taken, where st is the state with x taken off and counted: to
 --                       drop x is to go on with st. Each takes what it tests as its last argument
+--   settingOf p r       the lowest setting under which route r is permitted, if it is
+--   takenOff st xs      the state st with one subproblem taken off and counted; the others, xs, wait
 --   takeAt n x xs       the n-th of the subproblems x ∷ xs, counted from 0, or the last, and the others
 --   openNext q st x xs  the state after one of the subproblems x ∷ xs that wait in st was opened: steps 3 to 6
 --   next q st           the same, and none where nothing waits
 --   stateAt q n         THE SEQUENCE WITHOUT A BUDGET: its state number n, after n openings, if it goes on as long
---   Turn             what a step hands back: the state, changed, and its ending, or that it goes on
---   step q budget st    ONE STEP: 1, the pile is empty; 2, the budget is spent; else 3 to 6
+--   Turn                what a step hands back: the state, changed, and its ending, or that it goes on
+--   step q budget st    ONE STEP: 1, nothing waits (atEnd: the best route, or none); 2, the budget is spent; else 3 to 6
 --   runs q budget n st  at most n steps from st, until one ends
 --   run q budget        THE RUN TO ITS ENDING: each step opens one or ends, so budget + 1 steps are enough (Claims.antt: it never says that
 --                       it goes on)
@@ -83,10 +85,9 @@ abbrev pub considered : Problem → Subproblem → State → Option (List Belt) 
 considered q x st none = st
 considered q x st (some r) = compared q x st r (improves r (st .best))
 
--- x is taken off, the others wait, and the count is one higher
-abbrev pub opening : Problem → State → Subproblem → List Subproblem → State
-opening q st x others =
-    considered q x (record { waiting = others; opened = suc (st .opened); best = st .best }) (relaxed (q .plan) (q .s) (q .t) x)
+-- one is taken off, the others wait, and the count is one higher
+abbrev pub takenOff : State → List Subproblem → State
+takenOff st others = record { waiting = others; opened = suc (st .opened); best = st .best }
 
 -- ---- the subproblem that is taken
 
@@ -99,7 +100,7 @@ takeAt (suc n) x [] = (x, [])
 takeAt (suc n) x (y ∷ ys) = under x (takeAt n y ys)
 
 abbrev pub openTaken : Problem → State → Subproblem × List Subproblem → State
-openTaken q st taken = opening q st (taken .0) (taken .1)
+openTaken q st taken = considered q (taken .0) (takenOff st (taken .1)) (relaxed (q .plan) (q .s) (q .t) (taken .0))
 
 abbrev pub openNext : Problem → State → Subproblem → List Subproblem → State
 openNext q st x xs = openTaken q st (takeAt (q .choose (x ∷ xs)) x xs)

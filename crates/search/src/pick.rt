@@ -10,15 +10,15 @@ use route::relax::Fixings;
 ghost use mathlib.Core.Path.{_≡_};
 ghost use mathlib.Core.List.{head?};
 ghost use Prim.Native.Nat.{ℕ, _≤_, _<_};
-ghost use lib.ListN.{length, getD};
+ghost use lib.ListN.{getD};
 ghost use Rattle.plan.specs.Plan.{planOf, named, ruleAt};
 ghost use Rattle.plan.specs.Reading.{Accepted, IsRule};
 ghost use Rattle.plan.specs.declared.named.Place.the-variants.{At};
 ghost use Rattle.route.specs.Permission.{find};
 ghost use Rattle.route.specs.Values.{idsOf, Known, routeIn, inMask, subproblemIn, namedPlaces};
-ghost use Rattle.search.specs.Branching.{otherwise, pickOf};
+ghost use Rattle.search.specs.Branching.{highest, otherwise, pickOf};
 ghost use Rattle.search.specs.Values.{countsOf, pickedPlace};
-ghost use Rattle.search.specs.Inner.{Low, beltsIn, gatheredIn, withRule, unfixedAt, unfixedPlaces, atPlace, Below, busierAt, busiestAt};
+ghost use Rattle.search.specs.Inner.{Low, beltsIn, gatheredIn, withRule, unfixedAt, unfixedPlaces, atPlace, Below, countAt, busierAt};
 
 // What the picks go by beside a subproblem and its relaxed route: how many named belts there are, and in how many rules each of them is.
 pub struct Counts {
@@ -47,13 +47,13 @@ fn in_rule(p: &[u8], places: &[u8; 2048], rule: RuleId) -> u64
 }
 
 // The counts with one more for each belt in the mask of a rule.
-fn with_rule(rules: [u16; 48], named: usize, mask: u64) -> [u16; 48]
-    requires { ⌜ (named ≤ 48) × ((k : ℕ) → getD rules k 0 < 65535) ⌝ }
-    ensures { λ v. ⌜ v ≡ withRule rules named mask ⌝ }
+fn with_rule(rules: [u16; 48], count: usize, mask: u64) -> [u16; 48]
+    requires { ⌜ (count ≤ 48) × ((k : ℕ) → getD rules k 0 < 65535) ⌝ }
+    ensures { λ v. ⌜ v ≡ withRule rules count mask ⌝ }
 {
     let mut sums = rules;
     let mut k = 0;
-    while k < named {
+    while k < count {
         if masks::has(mask, Place::At(k)) {
             sums[k] += 1;
         }
@@ -110,12 +110,12 @@ fn is_unfixed(fixings: Fixings, k: usize) -> bool
 }
 
 // The lowest unfixed belt.
-fn lowest(fixings: Fixings, named: usize) -> Place
-    requires { ⌜ named ≤ 48 ⌝ }
-    ensures { λ v. ⌜ v ≡ atPlace (head? (unfixedPlaces fixings named)) ⌝ }
+fn lowest(fixings: Fixings, count: usize) -> Place
+    requires { ⌜ count ≤ 48 ⌝ }
+    ensures { λ v. ⌜ v ≡ atPlace (head? (unfixedPlaces fixings count)) ⌝ }
 {
     let mut k = 0;
-    while k < named {
+    while k < count {
         if is_unfixed(fixings, k) {
             return Place::At(k);
         }
@@ -125,12 +125,12 @@ fn lowest(fixings: Fixings, named: usize) -> Place
 }
 
 // The lowest unfixed belt in a mask.
-fn lowest_in(fixings: Fixings, named: usize, mask: u64) -> Place
-    requires { ⌜ named ≤ 48 ⌝ }
-    ensures { λ v. ⌜ v ≡ atPlace (find (λ (k : ℕ). inMask mask (At k)) (unfixedPlaces fixings named)) ⌝ }
+fn lowest_in(fixings: Fixings, count: usize, mask: u64) -> Place
+    requires { ⌜ count ≤ 48 ⌝ }
+    ensures { λ v. ⌜ v ≡ atPlace (find (λ (k : ℕ). inMask mask (At k)) (unfixedPlaces fixings count)) ⌝ }
 {
     let mut k = 0;
-    while k < named {
+    while k < count {
         if is_unfixed(fixings, k) {
             if masks::has(mask, Place::At(k)) {
                 return Place::At(k);
@@ -160,7 +160,7 @@ fn busier(rules: [u16; 48], best: Place, k: usize) -> Place
 // The unfixed belt in most rules, the lowest of equals.
 fn busiest(fixings: Fixings, counts: Counts) -> Place
     requires { ⌜ counts .named ≤ 48 ⌝ }
-    ensures { λ v. ⌜ v ≡ atPlace (busiestAt (counts .rules) (unfixedPlaces fixings (counts .named))) ⌝ }
+    ensures { λ v. ⌜ v ≡ atPlace (highest (countAt (counts .rules)) (unfixedPlaces fixings (counts .named))) ⌝ }
 {
     let rules = counts.rules;
     let mut best = Place::Unnamed;
@@ -175,14 +175,14 @@ fn busiest(fixings: Fixings, counts: Counts) -> Place
 }
 
 // The lowest unfixed belt on the route, else the lowest.
-fn lowest_on(places: &[u8; 2048], fixings: Fixings, named: usize, route: Route) -> Place
-    requires { ⌜ (named ≤ 48) × Low (now places) route ⌝ }
-    ensures { λ v. ⌜ v ≡ atPlace (otherwise (find (λ (k : ℕ). inMask (gatheredIn (now (places .entry)) 0 (idsOf route)) (At k)) (unfixedPlaces fixings named)) (head? (unfixedPlaces fixings named))) ⌝ }
+fn lowest_on(places: &[u8; 2048], fixings: Fixings, count: usize, route: Route) -> Place
+    requires { ⌜ (count ≤ 48) × Low (now places) route ⌝ }
+    ensures { λ v. ⌜ v ≡ atPlace (otherwise (find (λ (k : ℕ). inMask (gatheredIn (now (places .entry)) 0 (idsOf route)) (At k)) (unfixedPlaces fixings count)) (head? (unfixedPlaces fixings count))) ⌝ }
 {
-    let on = lowest_in(fixings, named, on_route(places, route));
+    let on = lowest_in(fixings, count, on_route(places, route));
     match on {
         Place::At(k) => Place::At(k),
-        Place::Unnamed => lowest(fixings, named),
+        Place::Unnamed => lowest(fixings, count),
     }
 }
 

@@ -78,7 +78,7 @@ returns-4 c =
     let past = at .before .before in
     let start = past .before .before .before .before .before in
     refused-told (asked start) 10 _ (start .args .out .now) (λ z. omega arith)
-    (refused-10 (asked start) (accepted past) (ends at) (fine query) (c .if4 .taken)) refl
+    (refused-10 (asked start) (accepted past) (ends at) (fine query) (let short = c .if4 .taken in omega arith)) refl
 
 find-route-requires : tie.Need-find-route-requires
 find-route-requires c κs =

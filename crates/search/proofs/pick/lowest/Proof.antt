@@ -27,7 +27,7 @@ returns c =
     let turn = c .before .before in
     let a = turn .before .before .args in
     let free = sym (c .before .is-unfixed .ensures) ∙ c .if1 .taken in
-    let first = keep-first (unfixedAt (a .fixings)) (turn .before .loop .k) (a .named) (turn .loop-test .taken) free in
+    let first = keep-first (unfixedAt (a .fixings)) (turn .before .loop .k) (a .count) (turn .loop-test .taken) free in
     ap (λ (ks : List ℕ). atPlace (head? ks)) (sym first ∙ turn .before .loop .inv)
 
 add-k : tie.Need-add-k Inv-loop μ-loop
@@ -41,13 +41,13 @@ loop-again c =
     let turn = c .before .before in
     let a = turn .before .before .args in
     let fixed = sym (c .before .is-unfixed .ensures) ∙ c .if1 .left in
-    let rest = keep-rest (unfixedAt (a .fixings)) (turn .before .loop .k) (a .named) (turn .loop-test .taken) fixed in
+    let rest = keep-rest (unfixedAt (a .fixings)) (turn .before .loop .k) (a .count) (turn .loop-test .taken) fixed in
     sym rest ∙ turn .before .loop .inv
 
 returns-2 : tie.Need-returns-2 Inv-loop μ-loop
 returns-2 c =
     let a = c .before .before .args in
-    let none = keep-done (unfixedAt (a .fixings)) (c .before .loop .k) (a .named) (c .loop-test .left) in
+    let none = keep-done (unfixedAt (a .fixings)) (c .before .loop .k) (a .count) (c .loop-test .left) in
     ap (λ (ks : List ℕ). atPlace (head? ks)) (sym none ∙ c .before .loop .inv)
 
 pub lowest-spec : {M : Type 1} → statement M

@@ -37,7 +37,7 @@ returns c =
     let a = turn .before .before .args in
     let on : ℕ → Bool = λ j. inMask (a .mask) (At j) in
     let free = sym (c .before .before .before .is-unfixed .ensures) ∙ c .before .before .if1 .taken in
-    let here = find-here (unfixedAt (a .fixings)) on (turn .before .loop .k) (a .named) (turn .loop-test .taken) free (sym (c .before .has .ensures) ∙ c .if2 .taken) in
+    let here = find-here (unfixedAt (a .fixings)) on (turn .before .loop .k) (a .count) (turn .loop-test .taken) free (sym (c .before .has .ensures) ∙ c .if2 .taken) in
     ap atPlace (sym here ∙ turn .before .loop .inv)
 
 add-k : tie.Need-add-k Inv-loop μ-loop
@@ -55,8 +55,8 @@ loop-again c =
     let k = turn .before .loop .k in
     let l = turn .loop-test .taken in
     ⊎-elim
-    (λ w. find-past (unfixedAt (a .fixings)) on k (a .named) l (free ∙ w .0 .taken) (sym (w .1 .ensures) ∙ w .2 .left))
-    (λ w. find-over (unfixedAt (a .fixings)) on k (a .named) l (free ∙ w .left))
+    (λ w. find-past (unfixedAt (a .fixings)) on k (a .count) l (free ∙ w .0 .taken) (sym (w .1 .ensures) ∙ w .2 .left))
+    (λ w. find-over (unfixedAt (a .fixings)) on k (a .count) l (free ∙ w .left))
     (c .if1 .came)
     ∙ turn .before .loop .inv
 
@@ -64,7 +64,7 @@ returns-2 : tie.Need-returns-2 Inv-loop μ-loop
 returns-2 c =
     let a = c .before .before .args in
     let on : ℕ → Bool = λ j. inMask (a .mask) (At j) in
-    let none = keep-done (unfixedAt (a .fixings)) (c .before .loop .k) (a .named) (c .loop-test .left) in
+    let none = keep-done (unfixedAt (a .fixings)) (c .before .loop .k) (a .count) (c .loop-test .left) in
     ap atPlace (sym (ap (find on) none) ∙ c .before .loop .inv)
 
 pub lowest-in-spec : {M : Type 1} → statement M

@@ -31,25 +31,25 @@ lowest-requires c κs = search needs
 abbrev on : tie.After-lowest-in → Option ℕ
 on c =
     let a = c .before .before .args in
-    find (λ (k : ℕ). inMask (gatheredIn (a .places .now) 0 (idsOf (a .route))) (At k)) (unfixedPlaces (a .fixings) (a .named))
+    find (λ (k : ℕ). inMask (gatheredIn (a .places .now) 0 (idsOf (a .route))) (At k)) (unfixedPlaces (a .fixings) (a .count))
 
 found : (c : tie.After-lowest-in) → c .lowest-in .result ≡ atPlace (on c)
 found c =
     let a = c .before .before .args in
     c .lowest-in .ensures
-    ∙ ap (λ (m : ℕ). atPlace (find (λ (k : ℕ). inMask m (At k)) (unfixedPlaces (a .fixings) (a .named)))) (c .before .on-route .ensures)
+    ∙ ap (λ (m : ℕ). atPlace (find (λ (k : ℕ). inMask m (At k)) (unfixedPlaces (a .fixings) (a .count)))) (c .before .on-route .ensures)
 
 returns : tie.Need-returns
 returns c =
     let looked = c .before .before .before in
     let a = looked .before .before .args in
-    else-at (on looked) (head? (unfixedPlaces (a .fixings) (a .named))) (c .before .on .given .0 .0) (sym (found looked) ∙ c .before .on .given .1)
+    else-at (on looked) (head? (unfixedPlaces (a .fixings) (a .count))) (c .before .on .given .0 .0) (sym (found looked) ∙ c .before .on .given .1)
 
 returns-2 : tie.Need-returns-2
 returns-2 c =
     let looked = c .before .before .before in
     let a = looked .before .before .args in
-    c .lowest .ensures ∙ else-none (on looked) (head? (unfixedPlaces (a .fixings) (a .named))) (sym (found looked) ∙ c .before .enum-told .given .1)
+    c .lowest .ensures ∙ else-none (on looked) (head? (unfixedPlaces (a .fixings) (a .count))) (sym (found looked) ∙ c .before .enum-told .given .1)
 
 pub lowest-on-spec : {M : Type 1} → statement M
 lowest-on-spec =

@@ -11,8 +11,8 @@ use Rattle.plan.proofs.Reading.{named-few}
 use Rattle.route.specs.Permission.{find}
 use Rattle.route.specs.Values.{idsOf, routeIn, inMask}
 use Rattle.search.specs.declared.pick.Counts.{Counts}
-use Rattle.search.specs.Branching.{otherwise}
-use Rattle.search.specs.Inner.{gatheredIn, unfixedPlaces, atPlace, busiestAt}
+use Rattle.search.specs.Branching.{highest, otherwise}
+use Rattle.search.specs.Inner.{gatheredIn, unfixedPlaces, atPlace, countAt}
 use Rattle.search.proofs.Picks.{picks-lowest, picks-busiest, picks-on, route-low, route-mask}
 use Rattle.search.proofs.pick.picked.Statement.{statement}
 use Rattle.search.proofs.pick.picked.Tie as tie
@@ -45,7 +45,7 @@ returns-2 c =
     let a = start .args in
     let p = a .p .now in
     c .busiest .ensures
-    ∙ ap (λ (v : Counts). atPlace (busiestAt (v .rules) (unfixedPlaces (a .fixings) (v .named)))) (start .pre .2)
+    ∙ ap (λ (v : Counts). atPlace (highest (countAt (v .rules)) (unfixedPlaces (a .fixings) (v .named)))) (start .pre .2)
     ∙ picks-busiest p (a .fixings) (routeIn p (a .route)) (a .pick) (c .before .if2 .taken)
 
 lowest-on-requires : tie.Need-lowest-on-requires

@@ -69,7 +69,7 @@ returns : tie.Need-returns Inv-loop μ-loop
 returns c =
     let loop = c .before .loop in
     let a = c .before .before .args in
-    let e : loop .k ≡ a .named = omega (arith, loop .inv .0, c .loop-test .left) in
+    let e : loop .k ≡ a .count = omega (arith, loop .inv .0, c .loop-test .left) in
     loop .inv .1 ∙ ap (λ (k : ℕ). withRule (a .rules) k (a .mask)) e
 
 pub with-rule-spec : {M : Type 1} → statement M
