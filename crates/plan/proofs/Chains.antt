@@ -25,10 +25,10 @@ use mathlib.Core.List.{List, [], _∷_, map, List·Memᴰ, List·Memᴰ·head, L
 use native.Mathlib.Omega.{arith}
 use lib.Dec.{eqb, leb}
 use borrow.Author.Tests.{eqb-true, eq-eqb, leb-true, leb-false}
-use Rattle.plan.specs.Lists.{kept, keep, mem, upto}
+use Rattle.plan.specs.Lists.{keep, mem, upto}
 use Rattle.plan.specs.Records.{field, kind, junctions, records, IsKind, Link, linkTo, linksAt, links, chainOf, chain}
 use Rattle.plan.specs.Plan.{Belt, firstIn, leaves, beltAt, beltRecords, planOf, leaving}
-use Rattle.plan.proofs.Lists.{test, in-keep, keep-in, in-map, map-in, in-upto, upto-in, in-mem, mem-in, count-some, count-one, never}
+use Rattle.plan.proofs.Lists.{test, in-keep, keep-in, in-map, map-in, in-upto, upto-in, in-mem, mem-in, count-some, count-one, never, keep-map}
 use Rattle.plan.proofs.Links.{linksAt-7, linksAt-1, linksAt-2, linksAt-3, linksAt-4, link, in-linkTo, linkTo-in, in-links, links-in, Linked}
 use Rattle.plan.proofs.Rising.{Rises, upto-rises, keep-rises, rises-equal, From, on, from, from-in, from-rises, from-head, from-next, from-cases, from-once}
 
@@ -178,15 +178,6 @@ firstIn-is f (x ∷ xs) j m t only = go (f x) refl (List·Memᴰ·cases-cons m) 
     go true e k later = only x (List·Memᴰ·head refl) e
     go false e (inl q) later = absurd (never (ap f (sym q) ∙ t) e)
     go false e (inr k) later = later k
-
--- what is kept of a map is a map of what is kept
-keep-map : {A B : Type 0} (f : B → Bool) (g : A → B) (xs : List A) → keep f (map g xs) ≡ map g (keep (λ (a : A). f (g a)) xs)
-keep-map f g [] = refl
-keep-map {A} f g (x ∷ xs) = go (f (g x)) (keep-map f g xs)
-  where
-    go : (t : Bool) → keep f (map g xs) ≡ map g (keep (λ (a : A). f (g a)) xs) → kept t (g x) (keep f (map g xs)) ≡ map g (kept t x (keep (λ (a : A). f (g a)) xs))
-    go true e = λ i. g x ∷ e i
-    go false e = e
 
 -- ---- the laws, of belts, rules and literals
 

@@ -145,6 +145,19 @@ pub any-cong : {A : Type 0} (f g : A → Bool) (xs : List A) → ((a : A) → Li
 any-cong f g [] h = refl
 any-cong f g (x ∷ xs) h = λ i. h x (List·Memᴰ·head refl) i || any-cong f g xs (λ a m. h a (List·Memᴰ·tail m)) i
 
+pub keep-cong : {A : Type 0} (f g : A → Bool) (xs : List A) → ((a : A) → List·Memᴰ a xs → f a ≡ g a) → keep f xs ≡ keep g xs
+keep-cong f g [] h = refl
+keep-cong f g (x ∷ xs) h = λ i. kept (h x (List·Memᴰ·head refl) i) x (keep-cong f g xs (λ a m. h a (List·Memᴰ·tail m)) i)
+
+-- what is kept of a map is a map of what is kept
+pub keep-map : {A B : Type 0} (f : B → Bool) (g : A → B) (xs : List A) → keep f (map g xs) ≡ map g (keep (λ (a : A). f (g a)) xs)
+keep-map f g [] = refl
+keep-map {A} f g (x ∷ xs) = go (f (g x)) (keep-map f g xs)
+  where
+    go : (t : Bool) → keep f (map g xs) ≡ map g (keep (λ (a : A). f (g a)) xs) → kept t (g x) (keep f (map g xs)) ≡ map g (kept t x (keep (λ (a : A). f (g a)) xs))
+    go true e = λ i. g x ∷ e i
+    go false e = e
+
 pub all-cong : {A : Type 0} (f g : A → Bool) (xs : List A) → ((a : A) → List·Memᴰ a xs → f a ≡ g a) → all f xs ≡ all g xs
 all-cong f g [] h = refl
 all-cong f g (x ∷ xs) h = λ i. h x (List·Memᴰ·head refl) i && all-cong f g xs (λ a m. h a (List·Memᴰ·tail m)) i

@@ -26,14 +26,9 @@ use lib.Dec.{leb}
 use borrow.Author.Tests.{leb-true, leb-false}
 use Rattle.plan.specs.Lists.{run}
 use Rattle.plan.proofs.Lists.{test, never, untrue, run-split}
-use Rattle.route.specs.Permission.{passes, allMet, Permitted, orElse, find}
+use Rattle.route.specs.Permission.{passes, allMet, Permitted, orElse, otherwise, find}
 use Rattle.route.specs.Claims.{LowestClaim}
 use Rattle.route.proofs.Bits.{shifted}
-
--- the first, or else the second
-abbrev pub otherwise : {A : Type 0} → Option A → Option A → Option A
-otherwise (some x) o = some x
-otherwise none o = o
 
 pub find-cong : {A : Type 0} (f g : A → Bool) (xs : List A) → ((a : A) → f a ≡ g a) → find f xs ≡ find g xs
 find-cong f g [] h = refl

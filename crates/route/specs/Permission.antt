@@ -9,7 +9,7 @@
 --   Permitted rules m r some setting of all the m modes meets every rule
 --   lowest rules m on   the lowest setting that works, if one does: of the settings 0, 1, .. below 2^m the first. It is the one found by
 --                       trying the highest mode off before on, and each lower mode inside it
---   find f xs           the first of xs that passes
+--   find f xs           the first of xs that passes; otherwise o w: o, and w where o is none
 --
 -- The rules to be met are an argument; those of a plan are `p .rules`. Assumes nothing.
 use mathlib.Core.Path.{_≡_}
@@ -45,6 +45,10 @@ Permitted rules m r = (σ : ℕ) × (σ < 2 ^ m) × (allMet rules (passes r) σ 
 abbrev pub orElse : {A : Type 0} → Bool → A → Option A → Option A
 orElse true x o = some x
 orElse false x o = o
+
+abbrev pub otherwise : {A : Type 0} → Option A → Option A → Option A
+otherwise (some x) o = some x
+otherwise none o = o
 
 abbrev pub find : {A : Type 0} → (A → Bool) → List A → Option A
 find f [] = none

@@ -28,12 +28,12 @@ use Rattle.plan.specs.Reading.{Accepted}
 use Rattle.plan.proofs.Lists.{test, either, never, alike, each, in-any, any-some, in-keep, keep-in, in-mem, mem-in}
 use Rattle.plan.proofs.Naming.{in-named}
 use Rattle.route.specs.Routes.{IsRoute}
-use Rattle.route.specs.Permission.{passes, find, orElse}
+use Rattle.route.specs.Permission.{passes, find, orElse, otherwise}
 use Rattle.route.specs.Subproblems.{Subproblem, admits}
 use Rattle.route.proofs.ByName.{route-belts}
 use Rattle.route.proofs.Firsts.{admits-is, is-admits}
 use Rattle.route.proofs.Holding.{AgreeOn, permitted-same}
-use Rattle.search.specs.Branching.{isFixed, unfixed, fixedCount, adding, requiring, forbidding, children, ruleCount, higher, highest, otherwise, pickOf}
+use Rattle.search.specs.Branching.{isFixed, unfixed, fixedCount, adding, requiring, forbidding, children, ruleCount, higher, highest, pickOf}
 use Rattle.search.specs.Search.{settingOf, problemOf}
 use Rattle.search.specs.Claims.{Explores}
 

@@ -18,7 +18,7 @@ use mathlib.Core.Logic.{_⊎_, inl, inr}
 use mathlib.Core.Bool.{Bool, true, false, not, _||_, true≢false}
 use mathlib.Core.Option.{Option, none, some}
 use Prim.Native.Nat.{ℕ, zero, suc, _+_, _-_, _≤_, _<_}
-use mathlib.Core.List.{List, [], _∷_, _++_, map, List·Memᴰ, List·Memᴰ·head, List·Memᴰ·tail, List·Memᴰ·not-nil}
+use mathlib.Core.List.{List, [], _∷_, _++_, map, List·Memᴰ, List·Memᴰ·not-nil}
 use native.Mathlib.Omega.{arith}
 use lib.Pow.{pow-pos}
 use lib.ListN.{length, getD, set, length-set, length-map, replicate}
@@ -27,10 +27,10 @@ use lib.Dec.{eqb, ltb}
 use borrow.Author.Tests.{eqb-true, eqb-false}
 use Rattle.plan.specs.declared.named.Place.{Place}
 use Rattle.plan.specs.declared.named.Place.the-variants.{At}
-use Rattle.plan.specs.Lists.{kept, keep, count, mem}
+use Rattle.plan.specs.Lists.{count, mem}
 use Rattle.plan.specs.Plan.{Belt, planOf, named, placeOf}
 use Rattle.plan.specs.Reading.{Accepted}
-use Rattle.plan.proofs.Lists.{test, keep-in, keep-none}
+use Rattle.plan.proofs.Lists.{test, keep-in, keep-none, keep-cong}
 use Rattle.plan.proofs.Naming.{named-rises}
 use Rattle.plan.proofs.Places.{at-place, place-in}
 use Rattle.plan.proofs.Reading.{named-few}
@@ -108,10 +108,6 @@ both-stored b xs n older newer l =
     ap (waitingIn b zs) two ∙ (λ k. subproblemIn b (last k) ∷ subproblemIn b (second k) ∷ others k)
 
 -- ---- the masks of the children
-
-keep-cong : {A : Type 0} (f g : A → Bool) (xs : List A) → ((a : A) → List·Memᴰ a xs → f a ≡ g a) → keep f xs ≡ keep g xs
-keep-cong f g [] h = refl
-keep-cong f g (x ∷ xs) h = λ i. kept (h x (List·Memᴰ·head refl) i) x (keep-cong f g xs (λ a m. h a (List·Memᴰ·tail m)) i)
 
 module _ (b : List ℕ) (e : ℕ) (i : List·Memᴰ e (named (planOf b))) where
   abbrev place : Place

@@ -26,21 +26,21 @@ use lib.Dec.{ltb}
 use borrow.Author.Tests.{lt-ltb, le-ltb, ltb-true, ltb-false}
 use Rattle.plan.specs.declared.named.Place.{Place}
 use Rattle.plan.specs.declared.named.Place.the-variants.{At, Unnamed}
-use Rattle.plan.specs.Lists.{kept, keep, mem, run, upto}
+use Rattle.plan.specs.Lists.{keep, mem, run, upto}
 use Rattle.plan.specs.Plan.{Belt, Plan, planOf, namesOf, named}
 use Rattle.plan.specs.Reading.{Accepted}
-use Rattle.plan.proofs.Lists.{keep-in, map-run, upto-in}
+use Rattle.plan.proofs.Lists.{keep-in, map-run, upto-in, keep-cong, keep-map}
 use Rattle.plan.proofs.Counts.{keep-first, keep-rest}
 use Rattle.plan.proofs.Rising.{Rises}
 use Rattle.plan.proofs.Naming.{names-back, named-rises}
 use Rattle.plan.proofs.Reading.{belt-low}
 use Rattle.route.specs.declared.path.Route.{Route}
 use Rattle.route.specs.declared.relax.Fixings.{Fixings}
-use Rattle.route.specs.Permission.{passes, find, orElse}
+use Rattle.route.specs.Permission.{passes, find, orElse, otherwise}
 use Rattle.route.specs.Values.{idsOf, Known, routeIn, inMask, LowPlace, fixedIn, subproblemIn, namedPlaces}
 use Rattle.route.proofs.ByName.{passes-names, known-route}
 use Rattle.route.proofs.Fixed.{fixed-mem, place-low, looked-up}
-use Rattle.search.specs.Branching.{isFixed, unfixed, ruleCount, higher, highest, otherwise, pickOf}
+use Rattle.search.specs.Branching.{isFixed, unfixed, ruleCount, higher, highest, pickOf}
 use Rattle.search.specs.Values.{countsOf, pickedPlace}
 use Rattle.search.specs.Inner.{Low, gatheredIn, unfixedAt, unfixedPlaces, atPlace, Below, countAt, busierAt}
 use Rattle.search.proofs.Counting.{stands, gathered-at, counts-at}
@@ -182,15 +182,8 @@ module _ (ns : List ℕ) where
 
   keep-belts : (f g : ℕ → Bool) (ks : List ℕ) → Inside ns ks → ((k : ℕ) → k < length ns → f (belt ns k) ≡ g k)
       → keep f (map (belt ns) ks) ≡ map (belt ns) (keep g ks)
-  keep-belts f g [] h same = refl
-  keep-belts f g (k ∷ ks) h same =
-      ap (λ (t : Bool). kept t (belt ns k) (keep f (map (belt ns) ks))) (same k (h k (List·Memᴰ·head refl)))
-      ∙ go (g k) (keep-belts f g ks (λ j m. h j (List·Memᴰ·tail m)) same)
-    where
-      go : (t : Bool) → keep f (map (belt ns) ks) ≡ map (belt ns) (keep g ks)
-          → kept t (belt ns k) (keep f (map (belt ns) ks)) ≡ map (belt ns) (kept t k (keep g ks))
-      go true e = ap (λ (es : List ℕ). belt ns k ∷ es) e
-      go false e = e
+  keep-belts f g ks h same =
+      keep-map f (belt ns) ks ∙ ap (map (belt ns)) (keep-cong (λ (k : ℕ). f (belt ns k)) g ks (λ k m. same k (h k m)))
 
   all-inside : Inside ns (upto 0 (length ns))
   all-inside k m = upto-in 0 (length ns) k m .1

@@ -10,7 +10,6 @@
 --   children o p x e  both, the newer one first: order 0 takes the child that forbids e next, order 1 the one that requires it
 --   ruleCount p e     in how many rules belt e is; a rule that names it twice counts once
 --   highest count es  the one of the belts es with the highest count, the first of equals (higher: the same of two)
---   otherwise o w     o, and w where o is none
 --   pickOf k p x r    pick k, of the subproblem x with the relaxed route r: 0 the lowest unfixed named belt, 1 the one in most rules, then the
 --                     lowest, 2 the lowest on the relaxed route, else the lowest; none where no named belt is unfixed
 --
@@ -22,7 +21,7 @@ use mathlib.Core.List.{List, [], _∷_, head?}
 use lib.Dec.{eqb, ltb}
 use Rattle.plan.specs.Lists.{keep, count, mem}
 use Rattle.plan.specs.Plan.{Belt, Plan, named, inRule}
-use Rattle.route.specs.Permission.{passes, find}
+use Rattle.route.specs.Permission.{passes, find, otherwise}
 use Rattle.route.specs.Subproblems.{Subproblem}
 
 abbrev pub isFixed : Subproblem → ℕ → Bool
@@ -62,10 +61,6 @@ higher count e (some f) = elim (ltb (count e) (count f)) [ true ↦ some f | fal
 abbrev pub highest : (ℕ → ℕ) → List ℕ → Option ℕ
 highest count [] = none
 highest count (e ∷ es) = higher count e (highest count es)
-
-abbrev pub otherwise : Option ℕ → Option ℕ → Option ℕ
-otherwise (some e) o = some e
-otherwise none o = o
 
 abbrev pub pickOf : ℕ → Plan → Subproblem → List Belt → Option ℕ
 pickOf zero p x r = head? (unfixed p x)

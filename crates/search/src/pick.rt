@@ -14,9 +14,9 @@ ghost use lib.ListN.{getD};
 ghost use Rattle.plan.specs.Plan.{planOf, named, ruleAt};
 ghost use Rattle.plan.specs.Reading.{Accepted, IsRule};
 ghost use Rattle.plan.specs.declared.named.Place.the-variants.{At};
-ghost use Rattle.route.specs.Permission.{find};
+ghost use Rattle.route.specs.Permission.{find, otherwise};
 ghost use Rattle.route.specs.Values.{idsOf, Known, routeIn, inMask, subproblemIn, namedPlaces};
-ghost use Rattle.search.specs.Branching.{highest, otherwise, pickOf};
+ghost use Rattle.search.specs.Branching.{highest, pickOf};
 ghost use Rattle.search.specs.Values.{countsOf, pickedPlace};
 ghost use Rattle.search.specs.Inner.{Low, beltsIn, gatheredIn, withRule, unfixedAt, unfixedPlaces, atPlace, Below, countAt, busierAt};
 

@@ -7,9 +7,9 @@ use native.Mathlib.Omega.{arith}
 use borrow.Author.Needs.{needs}
 use Rattle.plan.specs.Lists.{run}
 use Rattle.plan.specs.Plan.{planOf}
-use Rattle.route.specs.Permission.{allMet, find}
+use Rattle.route.specs.Permission.{allMet, find, otherwise}
 use Rattle.route.specs.Values.{marked, settingIn}
-use Rattle.route.proofs.Lowest.{otherwise, halves, weight, settle-none, settle-both}
+use Rattle.route.proofs.Lowest.{halves, weight, settle-none, settle-both}
 use Prim.Native.Nat.{ℕ, _+_, _*_, _-_, _^_, _<_}
 use borrow.Fn.Kinds.{In}
 use borrow.Fn.PlainCycle.{Measures, is, falls, and}

@@ -8,10 +8,10 @@ use lib.ListN.{length}
 use Rattle.plan.specs.declared.named.Place.the-variants.{At}
 use Rattle.plan.specs.Plan.{planOf, named}
 use Rattle.plan.proofs.Reading.{named-few}
-use Rattle.route.specs.Permission.{find}
+use Rattle.route.specs.Permission.{find, otherwise}
 use Rattle.route.specs.Values.{idsOf, routeIn, inMask}
 use Rattle.search.specs.declared.pick.Counts.{Counts}
-use Rattle.search.specs.Branching.{highest, otherwise}
+use Rattle.search.specs.Branching.{highest}
 use Rattle.search.specs.Inner.{gatheredIn, unfixedPlaces, atPlace, countAt}
 use Rattle.search.proofs.Picks.{picks-lowest, picks-busiest, picks-on, route-low, route-mask}
 use Rattle.search.proofs.pick.picked.Statement.{statement}
