@@ -1,19 +1,23 @@
-// The listing: the planner's answers as lines of text. The checker knows nothing of what is written out, so what is printed is held by
-// comparing the output of the programs that use this.
+// The listing: the planner's answers as lines of text. Which values are printed is proved (line_of); how they are written out is outside the
+// logic, and is held by comparing the output of the programs that use this.
 //
 //   s t cost setting opened belts..   a route
 //   s t none opened                   no route is permitted
 //   s t spent opened                  the budget is spent
 //   refused n                         the number of the first broken line of the refusal table
 use plan::read;
+use plan::read::BeltId;
 use route::path::Route;
 use route::path::Trip;
 use route::sheet;
+use route::sheet::Sheet;
 use search::entry;
 use search::entry::Answer;
 use search::query::Query;
+ghost use mathlib.Core.Path.{_≡_};
 ghost use Prim.Native.Nat.{_≤_};
 ghost use Rattle.plan.specs.Reading.{Accepted};
+ghost use Rattle.listing.specs.Lines.{blank, readSheet, sheetAt, lineOf};
 
 // A word and a number behind it.
 fn print(word: &[u8], n: u64) {
@@ -34,36 +38,85 @@ pub fn print_belts(route: Route)
     }
 }
 
-// The cost, the setting, the count and the belts of a sheet that a search has written.
-fn print_sheet(h: &[u8], opened: u64) {
+// What is printed of an answer: its number, how many were opened, and what its sheet says; nothing where it has none.
+pub struct Line {
+    pub number: u8,
+    pub opened: u64,
+    pub sheet: Sheet,
+}
+
+// A sheet that says nothing.
+fn blank() -> Sheet
+    ensures { λ v. ⌜ v ≡ blank ⌝ }
+{
+    Sheet {
+        route: Route {
+            count: 0,
+            belts: [BeltId(0); 255],
+        },
+        cost: 0,
+        setting: 0,
+    }
+}
+
+// What the bytes say, if they are in the form of a sheet.
+fn read_sheet(h: &[u8]) -> Sheet
+    ensures { λ v. ⌜ (v ≡ readSheet (now (h .entry))) × (v .route .count ≤ 255) ⌝ }
+{
     if sheet::in_form(h) {
-        let sheet = sheet::read(h);
+        return sheet::read(h);
+    }
+    blank()
+}
+
+// What the first `length` bytes say, if there are so many.
+fn sheet_at(out: &[u8], length: usize) -> Sheet
+    ensures { λ v. ⌜ (v ≡ sheetAt (now (out .entry)) length) × (v .route .count ≤ 255) ⌝ }
+{
+    if out.len() < length {
+        return blank();
+    }
+    read_sheet(&out[..length])
+}
+
+// The values of an answer. A route's sheet stands at the start of `out`.
+pub fn line_of(answer: Answer, out: &[u8]) -> Line
+    ensures { λ v. ⌜ (v ≡ lineOf answer (now (out .entry))) × (v .sheet .route .count ≤ 255) ⌝ }
+{
+    let reply = entry::numbers(answer);
+    let sheet = sheet_at(out, reply.size);
+    Line {
+        number: reply.number,
+        opened: reply.opened,
+        sheet: sheet,
+    }
+}
+
+// Prints a line behind s and t.
+pub fn print_line(line: Line)
+    requires { ⌜ line .sheet .route .count ≤ 255 ⌝ }
+{
+    if line.number == 0 {
+        let sheet = line.sheet;
         print(b" ", sheet.cost);
         print(b" ", sheet.setting as u64);
-        print(b" ", opened);
+        print(b" ", line.opened);
         print_belts(sheet.route);
+        return;
     }
-}
-
-// The same of the first `length` bytes; nothing where there are fewer.
-fn print_found(out: &[u8], length: usize, opened: u64) {
-    if length <= out.len() {
-        print_sheet(&out[..length], opened);
+    if line.number == 100 {
+        print(b" none ", line.opened);
+        return;
     }
-}
-
-// Prints an answer behind s and t. A route's sheet stands at the start of `out`.
-pub fn print_answer(answer: Answer, out: &[u8]) {
-    match answer {
-        Answer::Found(opened, length) => print_found(out, length, opened),
-        Answer::Nothing(opened) => print(b" none ", opened),
-        Answer::Spent(opened) => print(b" spent ", opened),
-        _ => print(b" refused ", entry::number(answer) as u64),
+    if line.number == 101 {
+        print(b" spent ", line.opened);
+        return;
     }
+    print(b" refused ", line.number as u64);
 }
 
 // The line from s to t: pick 0, order 0, budget 1,000,000.
-fn print_line(p: &[u8], s: u64, t: u64) {
+fn print_pair(p: &[u8], s: u64, t: u64) {
     let query = Query {
         trip: Trip { s: s, t: t },
         pick: 0,
@@ -74,7 +127,7 @@ fn print_line(p: &[u8], s: u64, t: u64) {
     io::print_decimal(1, s);
     print(b" ", t);
     let answer = entry::search(p, query, &mut out);
-    print_answer(answer, &out);
+    print_line(line_of(answer, &out));
     io::write_all(1, b"\n");
 }
 
@@ -83,7 +136,7 @@ fn print_from(p: &[u8], s: u64, last: u64) {
     let mut t = s;
     while t < last {
         t += 1;
-        print_line(p, s, t);
+        print_pair(p, s, t);
     }
 }
 

@@ -35,8 +35,9 @@ use Rattle.search.specs.declared.state.Stepped.{Stepped}
 use Rattle.search.specs.declared.state.Ending.{Ending}
 use Rattle.search.specs.declared.state.Ending.the-variants.{Found}
 use Rattle.search.specs.declared.query.Query.{Query}
+use Rattle.search.specs.declared.entry.Reply.{Reply}
 use Rattle.search.specs.Search.{Turn, settingOf, run}
-use Rattle.search.specs.Answers.{Request, asCase, onCheck, wrongQuery, broken9, broken10, line9, line10, searchRefusal, route, orZero, endingOf, ended, problemIn, unlessRefused, outcome, Reply, reply, Told}
+use Rattle.search.specs.Answers.{Request, asCase, onCheck, wrongQuery, broken9, broken10, line9, line10, searchRefusal, route, orZero, endingOf, ended, problemIn, unlessRefused, outcome, reply, Told}
 use Rattle.search.specs.Values.{bestIn, turnIn, requestOf}
 use Rattle.search.specs.Inner.{bestOf}
 use Rattle.search.proofs.Steps.{run-found}

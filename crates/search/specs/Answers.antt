@@ -21,7 +21,7 @@
 --   Told v before after o
 --                       the numbers v and the buffer, before and after, are those of the outcome o
 --
--- `Query` and `Answer` are declared by the code (src/query.rt, src/entry.rt). Assumes nothing.
+-- `Query`, `Answer` and `Reply` are declared by the code (src/query.rt, src/entry.rt). Assumes nothing.
 use mathlib.Core.Path.{_≡_}
 use Prim.Native.Nat.{ℕ, zero, suc}
 use mathlib.Core.Bool.{Bool, not, _&&_}
@@ -38,6 +38,7 @@ use Rattle.route.specs.Values.{caseOf}
 use Rattle.search.specs.declared.query.Query.{Query}
 use Rattle.search.specs.declared.entry.Answer.{Answer}
 use Rattle.search.specs.declared.entry.Answer.the-variants.{Found, Nothing, Spent, WrongSize, WrongHeader, WrongRecord, WrongChain, BackwardBelt, WrongLiteral, ManyNamed, WrongEnds, WrongQuery, ShortBuffer}
+use Rattle.search.specs.declared.entry.Reply.{Reply}
 use Rattle.search.specs.declared.state.Ending.{Ending}
 use Rattle.search.specs.declared.state.Ending.the-variants as ending
 use Rattle.search.specs.Search.{Problem, Turn, settingOf, run, problemOf}
@@ -117,11 +118,6 @@ unfoldable pub outcome : Request → Outcome
 outcome k = unlessRefused (searchRefusal k) k
 
 -- ---- answers
-
-pub record Reply : Type 0 where
-  pub number : ℕ
-  pub opened : ℕ
-  pub size : ℕ
 
 abbrev pub reply : ℕ → ℕ → ℕ → Reply
 reply n opened size = record { number = n; opened = opened; size = size }

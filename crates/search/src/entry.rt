@@ -49,6 +49,14 @@ pub enum Answer {
     ShortBuffer,
 }
 
+// An answer in numbers: 0 for a route, 100 for none, 101 for spent, or the number of the broken line; how many subproblems were opened; and the
+// length of the sheet. What an answer does not have is 0.
+pub struct Reply {
+    pub number: u8,
+    pub opened: u64,
+    pub size: usize,
+}
+
 // The answer where the plan got this verdict, which refuses it.
 fn of_plan(verdict: Verdict) -> Answer
     requires { ⌜ (numberOf verdict ≡ 0 → ⊥) ⌝ }
@@ -129,23 +137,46 @@ pub fn search(p: &[u8], query: Query, out: &mut [u8]) -> Answer
     find_route(p, query, out)
 }
 
-// The number of an answer: 0 for a route, 100 for none, 101 for spent, or that of the broken line.
-pub fn number(answer: Answer) -> u8
-    ensures { λ v. ⌜ v ≡ replyOf answer .number ⌝ }
+// The numbers of a refusal.
+fn refused(number: u8) -> Reply
+    ensures { λ v. ⌜ v ≡ reply number 0 0 ⌝ }
+{
+    Reply {
+        number: number,
+        opened: 0,
+        size: 0,
+    }
+}
+
+// An answer in numbers.
+pub fn numbers(answer: Answer) -> Reply
+    ensures { λ v. ⌜ v ≡ replyOf answer ⌝ }
 {
     match answer {
-        Answer::Found(opened, length) => 0,
-        Answer::Nothing(opened) => 100,
-        Answer::Spent(opened) => 101,
-        Answer::WrongSize => 1,
-        Answer::WrongHeader => 2,
-        Answer::WrongRecord => 3,
-        Answer::WrongChain => 4,
-        Answer::BackwardBelt => 5,
-        Answer::WrongLiteral => 6,
-        Answer::ManyNamed => 7,
-        Answer::WrongEnds => 8,
-        Answer::WrongQuery => 9,
-        Answer::ShortBuffer => 10,
+        Answer::Found(opened, length) => Reply {
+            number: 0,
+            opened: opened,
+            size: length,
+        },
+        Answer::Nothing(opened) => Reply {
+            number: 100,
+            opened: opened,
+            size: 0,
+        },
+        Answer::Spent(opened) => Reply {
+            number: 101,
+            opened: opened,
+            size: 0,
+        },
+        Answer::WrongSize => refused(1),
+        Answer::WrongHeader => refused(2),
+        Answer::WrongRecord => refused(3),
+        Answer::WrongChain => refused(4),
+        Answer::BackwardBelt => refused(5),
+        Answer::WrongLiteral => refused(6),
+        Answer::ManyNamed => refused(7),
+        Answer::WrongEnds => refused(8),
+        Answer::WrongQuery => refused(9),
+        Answer::ShortBuffer => refused(10),
     }
 }

@@ -8,7 +8,7 @@ use search::query::Query;
 // The answer to a query with this out buffer.
 fn print_answer(p: &[u8], query: Query, out: &mut [u8]) {
     let answer = entry::search(p, query, out);
-    listing::print_answer(answer, out);
+    listing::print_line(listing::line_of(answer, out));
 }
 
 // The same with an out buffer of `room` bytes; nothing where it would have more than 4,096.

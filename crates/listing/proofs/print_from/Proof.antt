@@ -16,8 +16,8 @@ loop-holds c = search needs
 add-t : tie.Need-add-t Inv-loop μ-loop
 add-t c = search needs
 
-print-line-requires : tie.Need-print-line-requires Inv-loop μ-loop
-print-line-requires c κs = search needs
+print-pair-requires : tie.Need-print-pair-requires Inv-loop μ-loop
+print-pair-requires c κs = search needs
 
 loop-less : tie.Need-loop-less Inv-loop μ-loop
 loop-less c = search needs
@@ -31,4 +31,4 @@ returns c = search needs
 pub print-from-spec : {M : Type 1} → statement M
 print-from-spec =
     tie.close
-    (tie.spec Inv-loop μ-loop loop-holds add-t print-line-requires loop-less loop-again returns)
+    (tie.spec Inv-loop μ-loop loop-holds add-t print-pair-requires loop-less loop-again returns)
