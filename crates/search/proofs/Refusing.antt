@@ -2,7 +2,7 @@
 -- A request is refused with the number of the first broken line, and what is not refused comes to something else than a refusal.
 --
 --   first-refusal      searchRefusal answers n exactly when n is the number of the first broken line, and 0 exactly when none is broken;
---                      first-positive: that number is not 0
+--                      first-numbered: that number is from 1 to 10
 --   Unrefused          no line is broken; zero-unrefused, unrefused-zero: exactly where the answer is 0
 --   limits-claim       LimitsClaim
 --   apart              0 is not 1: what an equation of two different forms comes to
@@ -10,7 +10,7 @@
 --   outcome-refused, outcome-ended
 --                      the outcome, by whether a line is broken
 --   ended-answered     a run comes to a route, to none or to spent; ended-unrefused: so never to a refusal
---   refused-claim      RefusedClaim
+--   refused-claim      RefusedClaim; refused-numbered: the number of a refusal is from 1 to 10
 --   route-unrefused    what comes to a route is not refused
 --   unchanged-claim    UnchangedClaim
 --
@@ -45,14 +45,15 @@ first-refusal : (k : Request) (n : ℕ) → (searchRefusal k ≡ n) ↔ (((n ≡
 unfolding searchRefusal
 first-refusal k n = first-exactly searchLines k n
 
--- no line has the number 0
-first-positive : (k : Request) (n : ℕ) → FirstIn searchLines k n → 1 ≤ n
-first-positive k n f =
-    let numbered : Line Request → Bool = λ (l : Line Request). leb 1 (l .number) in
+-- the lines have the numbers 1 to 10
+first-numbered : (k : Request) (n : ℕ) → FirstIn searchLines k n → (1 ≤ n) × (n ≤ 10)
+first-numbered k n f =
+    let numbered : Line Request → Bool = λ (l : Line Request). leb 1 (l .number) && leb (l .number) 10 in
     let m : List·Memᴰ (f .line) searchLines =
     subst (List·Memᴰ (f .line)) (sym (f .split)) (Memᴰ·append-right (f .before) (List·Memᴰ·head refl)) in
     let e : f .line .number ≡ n = f .number in
-    omega (arith, leb-true 1 (f .line .number) (all-in numbered searchLines refl m))
+    let (low, high) = both (leb 1 (f .line .number)) (leb (f .line .number) 10) (all-in numbered searchLines refl m) in
+    (omega (arith, leb-true 1 (f .line .number) low), omega (arith, leb-true (f .line .number) 10 high))
 
 -- ---- what unbroken lines say
 
@@ -174,7 +175,7 @@ ended-unrefused p v n h = go (ended p v) h (ended-answered p v)
     go o h (inr (inr (m, e))) = apart cc
 
 pub refused-claim : RefusedClaim
-refused-claim k n = (to (searchRefusal k) refl, λ f. from n (first-refusal k n .1 (inr f)) (first-positive k n f))
+refused-claim k n = (to (searchRefusal k) refl, λ f. from n (first-refusal k n .1 (inr f)) (first-numbered k n f .0))
   where
     first : 1 ≤ n → ((n ≡ 0) × Unbroken searchLines k) ⊎ FirstIn searchLines k n → FirstIn searchLines k n
     first l (inl h) = let z : n ≡ 0 = h .0 in absurd (omega arith)
@@ -190,6 +191,10 @@ refused-claim k n = (to (searchRefusal k) refl, λ f. from n (first-refusal k n 
     from : (m : ℕ) → searchRefusal k ≡ m → 1 ≤ m → outcome k ≡ refused m
     from zero e l = absurd (omega arith)
     from (suc m) e l = outcome-refused k m e
+
+-- a refusal is no other answer
+pub refused-numbered : (k : Request) (n : ℕ) → outcome k ≡ refused n → (1 ≤ n) × (n ≤ 10)
+refused-numbered k n h = first-numbered k n (refused-claim k n .0 h)
 
 pub route-unrefused : (k : Request) (es : List ℕ) (c σ n : ℕ) → outcome k ≡ route es c σ n → searchRefusal k ≡ 0
 route-unrefused k es c σ n h = go (searchRefusal k) refl
