@@ -1,0 +1,130 @@
+//! The baseline against the scope paper's examples and refusals. The paper's
+//! numbers are written out here, so that both sides of the benchmark cannot
+//! agree on a wrong search.
+
+use crate::baseline::search;
+use crate::check;
+use crate::query::{Answer, Query, NONE, ROUTE, SPENT};
+use crate::records::{encode, Record, SHEET_MAX, SIZE};
+
+const P: [Record; 10] = [
+    [7, 3, 1, 7, 10, 0],
+    [1, 4, 0, 0, 0, 0],
+    [1, 6, 0, 0, 0, 0],
+    [1, 0, 0, 0, 0, 0],
+    [2, 5, 2, 3, 0, 0],
+    [2, 0, 3, 9, 0, 0],
+    [2, 0, 3, 4, 0, 0],
+    [3, 0, 8, 0, 0, 0],
+    [4, 9, 0, 0, 4, 0],
+    [4, 0, 0, 0, 6, 0],
+];
+
+/// Plan P's junctions and belts with other rules behind them.
+fn with_rules(rules: &[Record]) -> Vec<Record> {
+    let mut records = P[..7].to_vec();
+    records.extend(rules);
+    records[0][3] = if rules.is_empty() { 0 } else { 7 };
+    records[0][4] = records.len() as u16;
+    records
+}
+
+fn bytes(records: &[Record]) -> Vec<u8> {
+    let mut bytes = vec![0; SIZE * records.len()];
+    for (record, place) in records.iter().zip(bytes.chunks_exact_mut(SIZE)) {
+        encode(*record, place);
+    }
+    bytes
+}
+
+fn ask(records: &[Record], query: Query) -> (Answer, Vec<u8>) {
+    let mut out = [0xEE; SHEET_MAX];
+    let answer = search(&bytes(records), &query, &mut out);
+    let (sheet, rest) = out.split_at(answer.length as usize);
+    assert!(rest.iter().all(|&byte| byte == 0xEE), "bytes behind the sheet changed");
+    (answer, sheet.to_vec())
+}
+
+const QUERY: Query = Query { s: 1, t: 3, pick: 0, order: 0, budget: 1_000_000 };
+
+fn expect_route(records: &[Record], query: Query, opened: u64, sheet: &[Record]) {
+    let (answer, written) = ask(records, query);
+    let length = (SIZE * sheet.len()) as u64;
+    assert_eq!(answer, Answer { number: ROUTE, opened, length });
+    assert_eq!(written, bytes(sheet));
+}
+
+fn expect_no_route(records: &[Record], query: Query, number: u64, opened: u64) {
+    assert_eq!(ask(records, query).0, Answer { number, opened, length: 0 });
+}
+
+const BELT_5: [Record; 2] = [[8, 1, 0, 0, 9, 0], [5, 0, 5, 0, 0, 0]];
+
+fn belts_4_6(setting: u16) -> [Record; 3] {
+    [[8, 1, 0, 0, 7, setting], [5, 2, 4, 0, 0, 0], [5, 0, 6, 0, 0, 0]]
+}
+
+#[test]
+fn examples_on_p() {
+    expect_route(&P, QUERY, 5, &BELT_5); // E1
+    expect_route(&P, Query { order: 1, ..QUERY }, 5, &BELT_5); // E2
+    expect_no_route(&P, Query { budget: 4, ..QUERY }, SPENT, 4); // E3
+    expect_route(&P, Query { budget: 5, ..QUERY }, 5, &BELT_5); // E4
+    expect_route(&P, Query { t: 1, ..QUERY }, 1, &[[8, 0, 0, 0, 0, 0]]); // E5
+    expect_no_route(&P, Query { s: 3, t: 1, ..QUERY }, NONE, 1); // E6
+}
+
+#[test]
+fn examples_with_other_rules() {
+    let mut free = with_rules(&[]);
+    expect_route(&free, QUERY, 1, &belts_4_6(0)); // E7
+    free[5][3] = 7;
+    expect_route(&free, QUERY, 1, &belts_4_6(0)); // E8
+    let not_5 = [[3, 10, 8, 0, 0, 0], P[8], P[9], [3, 0, 11, 0, 0, 0], [4, 0, 0, 0, 5, 0]];
+    expect_no_route(&with_rules(&not_5), QUERY, NONE, 11); // E9
+    let mode = [P[7], [4, 9, 0, 0, 4, 0], [4, 0, 1, 1, 1, 0]];
+    expect_route(&with_rules(&mode), QUERY, 1, &belts_4_6(1)); // E10
+    let clash = [[3, 9, 8, 0, 0, 0], [4, 0, 1, 1, 1, 0], [3, 0, 10, 0, 0, 0], [4, 0, 0, 1, 1, 0]];
+    expect_no_route(&with_rules(&clash), QUERY, NONE, 1); // E11
+}
+
+#[test]
+fn plan_refusals() {
+    let refused = |at: usize, field: usize, value: u16| {
+        let mut records = P;
+        records[at][field] = value;
+        check::number(&bytes(&records))
+    };
+    assert_eq!(check::number(&bytes(&P)), 0);
+    assert_eq!(check::number(&bytes(&P[..1])), 1);
+    assert_eq!(refused(0, 4, 9), 1);
+    assert_eq!(refused(0, 1, 257), 2);
+    assert_eq!(refused(0, 2, 11), 2);
+    assert_eq!(refused(6, 2, 0), 3);
+    assert_eq!(refused(6, 2, 4), 3);
+    assert_eq!(refused(9, 5, 1), 3);
+    assert_eq!(refused(5, 1, 6), 4);
+    assert_eq!(refused(1, 1, 10), 4);
+    assert_eq!(refused(6, 2, 2), 5);
+    assert_eq!(refused(9, 4, 7), 6);
+    assert_eq!(refused(9, 4, 10), 6);
+}
+
+/// Line 7 counts belts, not literals: 48 named belts pass, 49 do not.
+#[test]
+fn named_belts_are_limited() {
+    let plan = |named: u16| {
+        let literals = 2 * named;
+        let last = 2 + named + literals;
+        let mut records =
+            vec![[7, 2, 0, 3 + named, last + 2, 0], [1, 3, 0, 0, 0, 0], [1, 0, 0, 0, 0, 0]];
+        let belts = 3..3 + named;
+        records.extend(belts.clone().map(|i| [2, (i + 1) % (3 + named), 2, 1, 0, 0]));
+        records.push([3, 0, 4 + named, 0, 0, 0]);
+        let next = |i: u16| if i == last + 1 { 0 } else { i + 1 };
+        records.extend((4 + named..=last + 1).map(|i| [4, next(i), 1, 0, 3 + i % named, 0]));
+        bytes(&records)
+    };
+    assert_eq!(check::number(&plan(48)), 0);
+    assert_eq!(check::number(&plan(49)), 7);
+}

@@ -1,0 +1,23 @@
+//! What a search is asked and what it answers, for both sides.
+
+#[derive(Clone, Copy)]
+pub struct Query {
+    pub s: u64,
+    pub t: u64,
+    pub pick: u64,
+    pub order: u64,
+    pub budget: u64,
+}
+
+/// The returned number (0 a route, 1 to 10 refused, 100 none, 101 spent), the
+/// opened count and the sheet's length.
+#[derive(Clone, Copy, Debug, PartialEq)]
+pub struct Answer {
+    pub number: u64,
+    pub opened: u64,
+    pub length: u64,
+}
+
+pub const ROUTE: u64 = 0;
+pub const NONE: u64 = 100;
+pub const SPENT: u64 = 101;
