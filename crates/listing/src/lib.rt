@@ -115,6 +115,25 @@ pub fn print_line(line: Line)
     print(b" refused ", line.number as u64);
 }
 
+// The line of a plan or a query that is refused.
+fn print_refused(number: u8) {
+    print(b"refused ", number as u64);
+    io::write_all(1, b"\n");
+}
+
+// Prints the line of a query by its answer: s and t stand first; a refusal stands by itself.
+pub fn print_query(trip: Trip, answer: Answer, out: &[u8]) {
+    let line = line_of(answer, out);
+    if line.number == 0 || 100 <= line.number {
+        io::print_decimal(1, trip.s);
+        print(b" ", trip.t);
+        print_line(line);
+        io::write_all(1, b"\n");
+    } else {
+        print_refused(line.number);
+    }
+}
+
 // The line from s to t: pick 0, order 0, budget 1,000,000.
 fn print_pair(p: &[u8], s: u64, t: u64) {
     let query = Query {
@@ -124,11 +143,8 @@ fn print_pair(p: &[u8], s: u64, t: u64) {
         budget: 1000000,
     };
     let mut out = [0u8; 3072];
-    io::print_decimal(1, s);
-    print(b" ", t);
     let answer = entry::search(p, query, &mut out);
-    print_line(line_of(answer, &out));
-    io::write_all(1, b"\n");
+    print_query(query.trip, answer, &out);
 }
 
 // The lines from s to each later junction.
@@ -158,7 +174,6 @@ pub fn print_listing(p: &[u8]) {
     if number == 0 {
         print_lines(p);
     } else {
-        print(b"refused ", number as u64);
-        io::write_all(1, b"\n");
+        print_refused(number);
     }
 }

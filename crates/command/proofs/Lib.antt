@@ -1,0 +1,3 @@
+-- Laws, each file after those that it rests on.
+pub mod Digits
+pub mod Reading
