@@ -1,0 +1,178 @@
+//! Calls the library and compares its answer, and everything lent to it, with
+//! what is expected.
+
+use crate::call::{self, Searched};
+use crate::plan::{records_of, Record};
+use crate::refusals::Query;
+use crate::rng::Rng;
+use crate::tally::Tally;
+
+/// Nothing, or what went wrong.
+pub type Verdict = Result<(), String>;
+
+/// What a search is expected to answer.
+#[derive(Debug)]
+pub enum Answer {
+    Refused(u64),
+    Route { opened: u64, sheet: Vec<u8> },
+    None { opened: u64 },
+    Spent { opened: u64 },
+}
+
+pub struct Judge {
+    pub tally: Tally,
+    pub verbose: bool,
+    /// For guard bytes and for what buffers hold before a call.
+    guards: Rng,
+}
+
+impl Judge {
+    pub fn new(verbose: bool) -> Judge {
+        Judge { tally: Tally::default(), verbose, guards: Rng::new(0) }
+    }
+
+    /// Makes the guard bytes of a case depend on its seed alone.
+    pub fn begin(&mut self, seed: u64) {
+        self.guards = Rng::new(!seed);
+    }
+
+    pub fn plan(&mut self, plan: &[u8], expected: u64) -> Verdict {
+        let (number, strayed) = call::plan(plan, &mut self.guards);
+        self.tally.add("answers of planner_plan", &number.to_string());
+        self.number(&format!("plan of {} bytes", plan.len()), plan, expected, number, strayed)
+    }
+
+    pub fn check(&mut self, plan: &[u8], s: u64, t: u64, sheet: &[u8], expected: u64) -> Verdict {
+        let (number, strayed) = call::check(plan, s, t, sheet, &mut self.guards);
+        self.tally.add("answers of planner_check", &number.to_string());
+        let what = format!("check from {s} to {t} of a sheet of {} bytes ({})", sheet.len(), shown(sheet));
+        self.number(&what, plan, expected, number, strayed)
+    }
+
+    /// Compares a bare number, and asks that nothing changed.
+    fn number(&mut self, what: &str, plan: &[u8], expected: u64, got: u64, strayed: Option<String>) -> Verdict {
+        if self.verbose {
+            println!("{what}: expected {expected}, got {got}");
+        }
+        if got != expected {
+            return self.wrong(plan, format!("{what}: expected {expected}, got {got}"));
+        }
+        strayed.map_or(Ok(()), |strayed| self.wrong(plan, format!("{what}: {strayed}")))
+    }
+
+    pub fn search(&mut self, plan: &[u8], query: &Query, expected: &Answer) -> Verdict {
+        let got = call::search(plan, query, &mut self.guards);
+        self.note_search(query, expected, got.number);
+        let what = format!(
+            "search from {} to {}, pick {}, order {}, budget {}, out {} bytes",
+            query.s, query.t, query.pick, query.order, query.budget, query.out_len
+        );
+        let wanted = expected.after(&got);
+        if self.verbose {
+            println!("{what}: expected {}, got {}", wanted.shown(), State::of(&got).shown());
+        }
+        if let Some(strayed) = &got.strayed {
+            return self.wrong(plan, format!("{what}: {strayed}"));
+        }
+        if wanted != State::of(&got) {
+            let differs = got.out.iter().zip(&wanted.out).position(|(got, wanted)| got != wanted);
+            let differs = differs.map_or(String::new(), |at| format!("; out differs first at byte {at}"));
+            let wanted = wanted.shown();
+            return self.wrong(plan, format!("{what}: expected {wanted}, got {}{differs}", State::of(&got).shown()));
+        }
+        Ok(())
+    }
+
+    fn note_search(&mut self, query: &Query, expected: &Answer, number: u64) {
+        self.tally.add("answers of planner_search", &number.to_string());
+        let ending = match expected {
+            Answer::Refused(_) => return,
+            Answer::Route { .. } => "route",
+            Answer::None { .. } => "none",
+            Answer::Spent { .. } => "spent",
+        };
+        self.tally.add("ending", ending);
+        self.tally.add("pick, order and ending", &format!("{} {} {ending}", query.pick, query.order));
+    }
+
+    /// A failure; where one case is repeated, the plan's records are printed too.
+    fn wrong(&self, plan: &[u8], message: String) -> Verdict {
+        if self.verbose {
+            println!("The plan of the call that went wrong:");
+            print_records(plan);
+        }
+        Err(message)
+    }
+}
+
+/// A search's answer and all that was lent for writing, after the call.
+#[derive(PartialEq)]
+struct State {
+    number: u64,
+    opened: u64,
+    length: u64,
+    out: Vec<u8>,
+}
+
+impl State {
+    fn of(got: &Searched) -> State {
+        State { number: got.number, opened: got.opened.1, length: got.length.1, out: got.out.clone() }
+    }
+
+    fn shown(&self) -> String {
+        let sheet = if self.number == 0 && self.length as usize <= self.out.len() {
+            shown(&self.out[..self.length as usize])
+        } else {
+            String::from("no sheet")
+        };
+        format!("{} opened {} length {} ({sheet})", self.number, self.opened, self.length)
+    }
+}
+
+impl Answer {
+    /// What everything has to be after the call, from what it was before.
+    fn after(&self, got: &Searched) -> State {
+        let mut out = got.out_before.clone();
+        match self {
+            Answer::Refused(number) => State { number: *number, opened: got.opened.0, length: got.length.0, out },
+            Answer::None { opened } => State { number: 100, opened: *opened, length: 0, out },
+            Answer::Spent { opened } => State { number: 101, opened: *opened, length: 0, out },
+            Answer::Route { opened, sheet } => {
+                out[..sheet.len()].copy_from_slice(sheet);
+                State { number: 0, opened: *opened, length: sheet.len() as u64, out }
+            }
+        }
+    }
+}
+
+fn fields(record: &Record) -> String {
+    record.map(|field| field.to_string()).join(" ")
+}
+
+/// The first records of a sheet, and how many bytes are no whole record.
+fn shown(sheet: &[u8]) -> String {
+    let records = records_of(sheet);
+    let mut words: Vec<String> = records.iter().take(12).map(fields).collect();
+    if records.len() > 12 {
+        words.push(format!("and {} records more", records.len() - 12));
+    }
+    words.join("; ")
+}
+
+pub fn print_records(bytes: &[u8]) {
+    for (index, record) in records_of(bytes).iter().enumerate() {
+        println!("  {index}: {}", fields(record));
+    }
+    println!("  {} bytes", bytes.len());
+}
+
+/// The records that differ from those before.
+pub fn print_changes(before: &[u8], after: &[u8]) {
+    let old = records_of(before);
+    for (index, record) in records_of(after).iter().enumerate().take(4096) {
+        if old.get(index) != Some(record) {
+            println!("  {index}: {}", fields(record));
+        }
+    }
+    println!("  {} bytes", after.len());
+}
