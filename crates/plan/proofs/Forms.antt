@@ -2,25 +2,23 @@
 --
 --   Allowed u v       a field of use u may hold v, as a fact; allowed, allow: the same as `allows`
 --   fits-fields       a record fits exactly when each of its five fields is allowed
+--   fits-1 .. fits-7  the tests of a record of that kind, out of the table `rows`
 --   sized, few, there what line 1 says
 --   header            what line 2 says
 --   kind-low, kind-high
 --                     the kinds that line 3 lets stand at a place
 --
 -- Assumes nothing.
-use mathlib.Core.Path.{_≡_, refl, sym, ap, subst}
-use mathlib.Core.Bool.{Bool, true, false, not, _&&_}
+use mathlib.Core.Path.{_≡_, refl, sym, ap, subst, _∙_}
+use mathlib.Core.Bool.{Bool, true, false, not, _&&_, and-true, and-assoc}
 use Prim.Native.Nat.{ℕ, _+_, _*_, _≤_, _<_}
 use mathlib.Core.List.{List, [], _∷_}
 use native.Mathlib.Omega.{arith}
 use lib.ListN.{length}
 use lib.Dec.{eqb, ltb}
 use borrow.Author.Tests.{eqb-true, eq-eqb, ltb-true, lt-ltb, le-leb, lt-leb, not-false}
-use Rattle.plan.specs.declared.table.Use.{Use}
-use Rattle.plan.specs.declared.table.Use.the-variants.{Any, Unused, Between, Chain}
-use Rattle.plan.specs.declared.table.Row.{Row}
-use Rattle.plan.specs.Lists.{within, mem}
-use Rattle.plan.specs.Records.{field, kind, junctions, records, rowOf, rowAt, useAt, allows, fits}
+use Rattle.plan.specs.Lists.{all, within, mem}
+use Rattle.plan.specs.Records.{field, kind, junctions, records, Use, Any, Unused, Between, Chain, Row, rowOf, rowAt, useAt, fields, allows, fits}
 use Rattle.plan.specs.Refusals.{broken1, broken2, kindsBy, rightKind}
 use Rattle.plan.specs.Limits.{Header}
 use Rattle.plan.proofs.Lists.{both, and-is, within-is, is-within}
@@ -73,6 +71,47 @@ fields-fit b r k e h =
     allow (row .f1) (field b r 1) (g .0) i
     && (allow (row .f2) (field b r 2) (g .1) i
     && (allow (row .f3) (field b r 3) (g .2) i && (allow (row .f4) (field b r 4) (g .3) i && (allow (row .f5) (field b r 5) (g .4) i && true))))
+
+-- ---- a record, kind by kind, out of the table `rows`
+
+-- whether a record fits, had it the kind k
+suitsAs : List ℕ → ℕ → ℕ → Bool
+suitsAs b r k = all (λ (f : ℕ). allows (useAt (rowOf (junctions b) k) f) (field b r f)) fields
+
+suits-kind : (b : List ℕ) (r k : ℕ) → kind b r ≡ k → fits b r ≡ suitsAs b r k
+unfolding fits suitsAs
+suits-kind b r k e = ap (λ (n : ℕ). all (λ (f : ℕ). allows (useAt (rowOf (junctions b) n) f) (field b r f)) fields) e
+
+-- tests in a row, grouped as the code asks them
+last-two : (x y z : Bool) → (x && (y && (z && true))) ≡ (x && (y && z))
+last-two x y z = ap (λ (t : Bool). x && (y && t)) (and-true z)
+
+first-two : (x y z : Bool) → (x && (y && (z && true))) ≡ (x && y && z)
+first-two x y z = last-two x y z ∙ sym (and-assoc x y z)
+
+two-and-two : (x y z w : Bool) → (x && (y && (z && (w && true)))) ≡ ((x && y) && (z && w))
+two-and-two x y z w = ap (λ (t : Bool). x && t) (last-two y z w) ∙ sym (and-assoc x y (z && w))
+
+module _ (b : List ℕ) (r : ℕ) where
+  pub fits-7 : kind b r ≡ 7 → fits b r ≡ (within 1 (field b r 1) 256 && within 0 (field b r 2) 10 && eqb (field b r 5) 0)
+  unfolding suitsAs rowOf
+  fits-7 e = suits-kind b r 7 e ∙ first-two (within 1 (field b r 1) 256) (within 0 (field b r 2) 10) (eqb (field b r 5) 0)
+
+  pub fits-1 : kind b r ≡ 1 → fits b r ≡ ((eqb (field b r 2) 0 && eqb (field b r 3) 0) && (eqb (field b r 4) 0 && eqb (field b r 5) 0))
+  unfolding suitsAs rowOf
+  fits-1 e = suits-kind b r 1 e ∙ two-and-two (eqb (field b r 2) 0) (eqb (field b r 3) 0) (eqb (field b r 4) 0) (eqb (field b r 5) 0)
+
+  pub fits-2 : kind b r ≡ 2 → fits b r ≡ (within 1 (field b r 2) (junctions b) && (eqb (field b r 4) 0 && eqb (field b r 5) 0))
+  unfolding suitsAs rowOf
+  fits-2 e = suits-kind b r 2 e ∙ last-two (within 1 (field b r 2) (junctions b)) (eqb (field b r 4) 0) (eqb (field b r 5) 0)
+
+  pub fits-3 : kind b r ≡ 3 → fits b r ≡ (eqb (field b r 3) 0 && (eqb (field b r 4) 0 && eqb (field b r 5) 0))
+  unfolding suitsAs rowOf
+  fits-3 e = suits-kind b r 3 e ∙ last-two (eqb (field b r 3) 0) (eqb (field b r 4) 0) (eqb (field b r 5) 0)
+
+  pub fits-4 : kind b r ≡ 4 → fits b r ≡ (within 0 (field b r 2) 1 && within 0 (field b r 3) 1 && eqb (field b r 5) 0)
+  unfolding suitsAs rowOf
+  fits-4 e = suits-kind b r 4 e ∙ first-two (within 0 (field b r 2) 1) (within 0 (field b r 3) 1) (eqb (field b r 5) 0)
 
 -- ---- line 1
 

@@ -1,6 +1,6 @@
 -- The links that a record holds, kind by kind, out of the table `rows`; and what lines 1 to 4 say of all links together.
 --
---   linksAt-1 .. linksAt-7   the links of a record of that kind
+--   linksAt-1 .. linksAt-7   the links of a record of that kind; linksAt-other: of a kind that is not in the table
 --   held-links               they lead where the limits' chain fields lead
 --   Well, Upward             a link leads to a later record of its kind; every link leads above the junctions
 --   Linked b                 kinds, rising links and one link to each record above J: what the laws of chains rest on
@@ -84,7 +84,7 @@ known k = at-7 (ℕ-discrete k 7)
     at-7 (no n7) = at-1 n7 (ℕ-discrete k 1)
 
 -- a record of a kind that is not in the table holds no link
-linksAt-other : (b : List ℕ) (r : ℕ) → (kind b r ≡ 7 → ⊥) → (kind b r ≡ 1 → ⊥) → (kind b r ≡ 2 → ⊥) → (kind b r ≡ 3 → ⊥) → (kind b r ≡ 4 → ⊥) → linksAt b r ≡ []
+pub linksAt-other : (b : List ℕ) (r : ℕ) → (kind b r ≡ 7 → ⊥) → (kind b r ≡ 1 → ⊥) → (kind b r ≡ 2 → ⊥) → (kind b r ≡ 3 → ⊥) → (kind b r ≡ 4 → ⊥) → linksAt b r ≡ []
 unfolding linksAt rowOf
 linksAt-other b r n7 n1 n2 n3 n4 =
     let k = kind b r in

@@ -28,6 +28,13 @@ both false b h = absurd (true≢false (sym h))
 pub and-is : (a b : Bool) → a ≡ true → b ≡ true → (a && b) ≡ true
 and-is a b p q = λ i. p i && q i
 
+-- two tests s and t, one after the other: the second decides where the first is passed, the first where it is not
+pub and-next : {x y : Bool} (s t : Bool) → s ≡ x → t ≡ y → s ≡ true → t ≡ (x && y)
+and-next {x} {y} s t p q h = q ∙ sym (ap (λ (b : Bool). b && y) (sym p ∙ h))
+
+pub and-stop : {x : Bool} (s y : Bool) → s ≡ x → s ≡ false → s ≡ (x && y)
+and-stop {x} s y p h = h ∙ sym (ap (λ (b : Bool). b && y) (sym p ∙ h))
+
 pub neither : (a b : Bool) → (a || b) ≡ false → (a ≡ false) × (b ≡ false)
 neither true b h = absurd (true≢false h)
 neither false b h = (refl, h)

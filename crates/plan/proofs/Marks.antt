@@ -1,12 +1,13 @@
 -- Following links, and the marks that it leaves (specs/Inner.antt).
 --
 --   follow-zero, -far, -back, -kind, -well   what following one chain index finds, by the tests that tell it
+--   followed-as, -stop, -next                following the same links; two lists of links, one after the other
 --   pass-stop, -next, marks-next             a loop that follows lists of links, one after the other
 --   once-marked                              a record is marked as met once exactly where one link leads to it
 --
 -- Assumes nothing.
 use mathlib.Core.Path.{_≡_, refl, sym, _∙_, ap}
-use mathlib.Core.Bool.{Bool, true, false, not, _&&_, _||_}
+use mathlib.Core.Bool.{Bool, true, false, not, _&&_, _||_, true≢false}
 use Prim.Native.Nat.{ℕ, zero, suc, _+_, _≤_, _<_}
 use mathlib.Core.List.{List, [], _∷_, _++_}
 use native.Mathlib.Omega.{arith}
@@ -17,7 +18,7 @@ use borrow.Author.Tests.{eqb-true, eqb-false, eq-eqb, ne-eqb, lt-ltb, le-ltb}
 use Rattle.plan.specs.Lists.{any, counted, joined, upto}
 use Rattle.plan.specs.Records.{kind, records, Link, linkTo}
 use Rattle.plan.specs.Refusals.{badLink, pointers}
-use Rattle.plan.specs.Inner.{bump, mark, marked, markedOnce}
+use Rattle.plan.specs.Inner.{bump, mark, marked, markedOnce, Followed}
 use Rattle.plan.proofs.Lists.{any-append, any-cong, upto-step, upto-end, upto-in}
 use Rattle.plan.proofs.Links.{link}
 
@@ -59,6 +60,22 @@ joined-step g r hi h = ap (joined g) (upto-step r hi h)
 marked-append : (seen : List ℕ) (xs ys : List Link) → marked seen (xs ++ ys) ≡ marked (marked seen xs) ys
 marked-append seen [] ys = refl
 marked-append seen (x ∷ xs) ys = marked-append (mark seen (x .index)) xs ys
+
+module _ (b seen later : List ℕ) (xs ys : List Link) where
+  pub followed-as : {t : Bool} → xs ≡ ys → Followed b xs seen later t → Followed b ys seen later t
+  followed-as e h = (h .0 ∙ ap (any (badLink b)) e, λ k. h .1 k ∙ ap (marked seen) e)
+
+  pub followed-stop : (mid : List ℕ) {s : Bool} → s ≡ true → Followed b xs seen mid s → Followed b (xs ++ ys) seen later true
+  followed-stop mid e h = (
+    sym (any-append (badLink b) xs ys ∙ ap (λ (x : Bool). x || any (badLink b) ys) (sym (h .0) ∙ e)),
+    λ k. absurd (true≢false k),
+  )
+
+  pub followed-next : (mid : List ℕ) {s t : Bool} → s ≡ false → Followed b xs seen mid s → Followed b ys mid later t → Followed b (xs ++ ys) seen later t
+  followed-next mid e h k = (
+    k .0 ∙ sym (any-append (badLink b) xs ys ∙ ap (λ (x : Bool). x || any (badLink b) ys) (sym (h .0) ∙ e)),
+    λ u. k .1 u ∙ ap (λ (m : List ℕ). marked m ys) (h .1 e) ∙ sym (marked-append seen xs ys),
+  )
 
 module _ (f : Link → Bool) (g : ℕ → List Link) (r hi : ℕ) where
   pub pass-stop : r < hi → any f (g r) ≡ true → any f (joined g (upto r hi)) ≡ true

@@ -21,10 +21,8 @@ use native.Mathlib.Omega.{arith}
 use native.Mathlib.Nat.{mul-zero, zero-mul, suc-mul, eq-zero-or-pos}
 use lib.Dec.{eqb, ltb}
 use borrow.Author.Tests.{eqb-true, eq-eqb, ne-eqb, ltb-true, ltb-false}
-use Rattle.plan.specs.declared.table.Use.{Use}
-use Rattle.plan.specs.declared.table.Use.the-variants.{Any, Unused, Between, Chain}
 use Rattle.plan.specs.Lists.{counted, count, joined, run, upto}
-use Rattle.plan.specs.Records.{field, junctions, records, rowAt, useAt, fields, Link, linkBy, linksAt, links}
+use Rattle.plan.specs.Records.{field, junctions, records, Use, Any, Unused, Between, Chain, rowAt, useAt, fields, Link, linkBy, linksAt, links}
 use Rattle.plan.specs.Refusals.{pointers}
 use Rattle.plan.specs.Limits.{walk, reached}
 use Rattle.plan.proofs.Lists.{test, eqb-sym, joined-in, run-split, upto-step, upto-in, count-append, count-some}

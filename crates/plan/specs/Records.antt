@@ -17,17 +17,13 @@
 --   linksAt b r     the links that record r holds; links b: those of the whole plan
 --   chain b i       the indices of the chain that starts at i: field 1 of each record is the next, zero ends it; chainOf: its first n
 --
--- `Use` and `Row` are declared by the code (src/table.rt). Not here: what a broken plan is refused with (Refusals.antt).
--- Assumes nothing.
+-- Not here: what a broken plan is refused with (Refusals.antt). Assumes nothing.
 use mathlib.Core.Path.{_≡_}
 use Prim.Native.Nat.{ℕ, zero, suc, _+_, _*_, _/_, _%_, _<_}
 use mathlib.Core.Bool.{Bool, true, false}
 use mathlib.Core.List.{List, [], _∷_}
 use lib.ListN.{getD}
 use lib.Dec.{eqb}
-use Rattle.plan.specs.declared.table.Use.{Use}
-use Rattle.plan.specs.declared.table.Use.the-variants.{Any, Unused, Between, Chain}
-use Rattle.plan.specs.declared.table.Row.{Row}
 use Rattle.plan.specs.Lists.{all, joined, upto, within}
 
 abbrev pub field : List ℕ → ℕ → ℕ → ℕ
@@ -55,6 +51,20 @@ abbrev pub IsKind : List ℕ → ℕ → ℕ → Type 0
 IsKind b k i = (i < records b) × (kind b i ≡ k)
 
 -- ---- what each kind of record holds
+
+-- any value, zero, from the first number to the second with both included, or a chain index: zero, or the index of a later record of this kind
+pub data Use : Type 0 where
+  Any : Use
+  Unused : Use
+  Between : ℕ → ℕ → Use
+  Chain : ℕ → Use
+
+pub record Row : Type 0 where
+  pub f1 : Use
+  pub f2 : Use
+  pub f3 : Use
+  pub f4 : Use
+  pub f5 : Use
 
 -- a row of the table: the kind of record, and the use of each of its fields 1 to 5
 pub record Entry : Type 0 where

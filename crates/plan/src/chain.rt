@@ -1,14 +1,17 @@
 // Line 4 of the refusal table: every chain index leads to a later record of the right kind, and every record above the
 // junctions is reached once. Each link is followed once; an array marks where the links lead.
 use crate::record;
-use crate::table;
-use crate::table::Use;
+use crate::record::BELT;
+use crate::record::HEADER;
+use crate::record::JUNCTION;
+use crate::record::LITERAL;
+use crate::record::RULE;
 ghost use mathlib.Core.Path.{_≡_};
 ghost use mathlib.Core.Bool.{not};
 ghost use Prim.Native.Nat.{_*_, _<_, _≤_};
 ghost use lib.ListN.{length};
 ghost use Rattle.plan.specs.Lists.{any, upto};
-ghost use Rattle.plan.specs.Records.{records, linkTo, linkBy, linksAt, links};
+ghost use Rattle.plan.specs.Records.{kind, records, linkTo, linksAt, links};
 ghost use Rattle.plan.specs.Refusals.{broken4};
 ghost use Rattle.plan.specs.Inner.{Passed2};
 ghost use Rattle.plan.specs.Inner.{bump, markedOnce, Followed};
@@ -41,33 +44,30 @@ fn follow_index(p: &[u8], seen: &mut [u8], n: usize, r: usize, i: usize, want: u
     false
 }
 
-// Whether the value v of a field of this use, held by record r, is wrong; marks the record that it leads to.
-fn follow(p: &[u8], seen: &mut [u8], n: usize, r: usize, v: usize, u: Use) -> bool
-    requires { ⌜ (n ≡ records (now p)) × (12 * n ≤ length (now p)) × (n ≤ length (now seen)) ⌝ }
-    ensures { λ t. ⌜ Followed (now (p .entry)) (linkBy u r v) (now (seen .entry)) (now (seen .exit)) t ⌝ }
+// Whether a chain index of record r, a rule, is wrong; marks the records that they lead to.
+fn follow_rule(p: &[u8], seen: &mut [u8], n: usize, r: usize) -> bool
+    requires { ⌜ (n ≡ records (now p)) × (12 * n ≤ length (now p)) × (n ≤ length (now seen)) × (r < n) × (kind (now p) r ≡ 3) ⌝ }
+    ensures { λ v. ⌜ Followed (now (p .entry)) (linksAt (now (p .entry)) r) (now (seen .entry)) (now (seen .exit)) v ⌝ }
 {
-    match u {
-        Use::Any => false,
-        Use::Unused => false,
-        Use::Between(_, _) => false,
-        Use::Chain(want) => follow_index(p, seen, n, r, v, want),
+    if follow_index(p, seen, n, r, record::index(p, r, 1), RULE) {
+        return true;
     }
+    follow_index(p, seen, n, r, record::index(p, r, 2), LITERAL)
 }
 
-// Whether a chain index of record r is wrong; marks the records that they lead to.
+// Whether a chain index of record r is wrong, by its row of the table `rows`; marks the records that they lead to.
 fn follow_record(p: &[u8], seen: &mut [u8], n: usize, r: usize) -> bool
     requires { ⌜ (n ≡ records (now p)) × (12 * n ≤ length (now p)) × (n ≤ length (now seen)) × (r < n) ⌝ }
     ensures { λ v. ⌜ Followed (now (p .entry)) (linksAt (now (p .entry)) r) (now (seen .entry)) (now (seen .exit)) v ⌝ }
 {
-    let row = table::row_of(record::field(p, 0, 1), record::field(p, r, 0));
-    let mut f = 1;
-    while f < 6 {
-        if follow(p, seen, n, r, record::index(p, r, f), table::use_at(row, f)) {
-            return true;
-        }
-        f += 1;
+    match record::field(p, r, 0) {
+        HEADER => follow_index(p, seen, n, r, record::index(p, r, 3), RULE),
+        JUNCTION => follow_index(p, seen, n, r, record::index(p, r, 1), BELT),
+        BELT => follow_index(p, seen, n, r, record::index(p, r, 1), BELT),
+        RULE => follow_rule(p, seen, n, r),
+        LITERAL => follow_index(p, seen, n, r, record::index(p, r, 1), LITERAL),
+        _ => false,
     }
-    false
 }
 
 // Whether a chain index of the plan is wrong; marks the records that they lead to.
@@ -85,19 +85,21 @@ fn follow_all(p: &[u8], seen: &mut [u8], n: usize) -> bool
     false
 }
 
-// Whether a record from lo on is reached twice or never, by its mark.
+// Whether a record from lo on is reached twice or never, by its mark. The loop does not return early, so that many marks can be tested
+// at a time.
 fn unmet(seen: &[u8], lo: usize, n: usize) -> bool
     requires { ⌜ n ≤ length (now seen) ⌝ }
     ensures { λ v. ⌜ v ≡ any (λ r. not (markedOnce (now (seen .entry)) r)) (upto lo n) ⌝ }
 {
+    let mut found = false;
     let mut r = lo;
     while r < n {
         if seen[r] != 1 {
-            return true;
+            found = true;
         }
         r += 1;
     }
-    false
+    found
 }
 
 // Line 4: whether a chain index is wrong, or a record above the junctions is reached twice or never.

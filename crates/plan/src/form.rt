@@ -7,7 +7,7 @@ use crate::record::LITERAL;
 use crate::record::RULE;
 use crate::table;
 ghost use mathlib.Core.Path.{_≡_};
-ghost use mathlib.Core.Bool.{false};
+ghost use mathlib.Core.Bool.{false, _&&_};
 ghost use Prim.Native.Nat.{_+_, _*_, _≤_};
 ghost use lib.ListN.{length};
 ghost use Rattle.plan.specs.Records.{field, fits};
@@ -27,22 +27,6 @@ pub fn wrong_size(p: &[u8]) -> bool
     p.len() != 12 * record::records(p)
 }
 
-// Whether the unused and the ranged fields of record r are as its kind wants them.
-fn fits(p: &[u8], junctions: u16, r: usize) -> bool
-    requires { ⌜ (junctions ≡ field (now p) 0 1) × (12 * r + 12 ≤ length (now p)) ⌝ }
-    ensures { λ v. ⌜ v ≡ fits (now (p .entry)) r ⌝ }
-{
-    let row = table::row_of(junctions, record::field(p, r, 0));
-    let mut f = 1;
-    while f < 6 {
-        if !table::allows(table::use_at(row, f), record::field(p, r, f)) {
-            return false;
-        }
-        f += 1;
-    }
-    true
-}
-
 // Line 2: whether record 0 is wrong, or leaves no room for its junctions.
 pub fn wrong_header(p: &[u8]) -> bool
     requires { ⌜ broken1 (now p) ≡ false ⌝ }
@@ -52,28 +36,27 @@ pub fn wrong_header(p: &[u8]) -> bool
         return true;
     }
     let junctions = record::field(p, 0, 1);
-    if !fits(p, junctions, 0) {
+    if !table::header_fits(p, 0) {
         return true;
     }
     record::field(p, 0, 4) <= junctions
 }
 
-// Whether record r is of a kind that may stand at its place.
-fn right_kind(p: &[u8], junctions: u16, r: usize) -> bool
+// Whether record r is of a kind that may stand at its place, and its unused and ranged fields are as that kind wants them.
+fn right_record(p: &[u8], junctions: u16, r: usize) -> bool
     requires { ⌜ (junctions ≡ field (now p) 0 1) × (12 * r + 12 ≤ length (now p)) ⌝ }
-    ensures { λ v. ⌜ v ≡ rightKind (now (p .entry)) r ⌝ }
+    ensures { λ v. ⌜ v ≡ (rightKind (now (p .entry)) r && fits (now (p .entry)) r) ⌝ }
 {
     let kind = record::field(p, r, 0);
     if r <= junctions as usize {
-        return kind == JUNCTION;
+        return kind == JUNCTION && table::junction_fits(p, r);
     }
-    if kind == BELT {
-        return true;
+    match kind {
+        BELT => table::belt_fits(p, junctions, r),
+        RULE => table::rule_fits(p, r),
+        LITERAL => table::literal_fits(p, r),
+        _ => false,
     }
-    if kind == RULE {
-        return true;
-    }
-    kind == LITERAL
 }
 
 // Line 3: whether a record above 0 is of a wrong kind, or has a wrong field.
@@ -85,10 +68,7 @@ pub fn wrong_record(p: &[u8]) -> bool
     let last = record::field(p, 0, 1);
     let mut r = 1;
     while r < n {
-        if !right_kind(p, last, r) {
-            return true;
-        }
-        if !fits(p, last, r) {
+        if !right_record(p, last, r) {
             return true;
         }
         r += 1;

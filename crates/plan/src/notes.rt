@@ -2,7 +2,7 @@
 use crate::record;
 use crate::record::LITERAL;
 ghost use mathlib.Core.Path.{_≡_};
-ghost use Prim.Native.Nat.{suc, _+_, _*_, _≤_};
+ghost use Prim.Native.Nat.{suc, _+_, _*_, _<_, _≤_};
 ghost use lib.ListN.{length};
 ghost use Rattle.plan.specs.Lists.{count, upto};
 ghost use Rattle.plan.specs.Records.{records, junctions};
@@ -37,12 +37,12 @@ pub fn note_named(p: &[u8], marks: &mut [u8])
     }
 }
 
-// How many of the first n records are marked.
-fn count_marks(marks: &[u8], n: usize) -> usize
-    requires { ⌜ n ≤ length (now marks) ⌝ }
+// How many of the first n records are marked. The count has 16 bits, so that many marks can be counted at a time.
+fn count_marks(marks: &[u8], n: usize) -> u16
+    requires { ⌜ (n ≤ length (now marks)) × (n < 65536) ⌝ }
     ensures { λ v. ⌜ v ≡ count (markedOnce (now (marks .entry))) (upto 0 n) ⌝ }
 {
-    let mut total = 0;
+    let mut total: u16 = 0;
     let mut e = 0;
     while e < n {
         if marks[e] == 1 {

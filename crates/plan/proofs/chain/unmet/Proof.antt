@@ -1,7 +1,8 @@
--- `plan::chain::unmet` meets its contract: the records from r on decide as all of them do. Assumes nothing.
+-- `plan::chain::unmet` meets its contract: what is found, or what the records from r on decide, is what all of them do. Assumes nothing.
 use mathlib.Core.Path.{_≡_, refl, sym, ap, _∙_}
-use mathlib.Core.Bool.{Bool, not}
-use Prim.Native.Nat.{ℕ, _-_}
+use mathlib.Core.Logic.{⊎-elim}
+use mathlib.Core.Bool.{Bool, true, false, not, _||_, or-true, or-false}
+use Prim.Native.Nat.{ℕ, _+_, _-_, _<_}
 use mathlib.Core.List.{List}
 use borrow.Author.Needs.{needs}
 use borrow.Author.Tests.{eq-eqb, ne-eqb}
@@ -15,10 +16,10 @@ abbrev un : List ℕ → ℕ → Bool
 un seen r = not (markedOnce seen r)
 
 abbrev Inv-loop : tie.InvT-loop
-Inv-loop seen lo n r₀ r = any (un seen) (upto r n) ≡ any (un seen) (upto lo n)
+Inv-loop seen lo n found₀ r₀ found r = (found || any (un seen) (upto r n)) ≡ any (un seen) (upto lo n)
 
 abbrev μ-loop : tie.MeasureT-loop
-μ-loop seen lo n r₀ r = n - r
+μ-loop seen lo n found₀ r₀ found r = n - r
 
 loop-holds : tie.Need-loop-holds Inv-loop μ-loop
 loop-holds c = refl
@@ -26,39 +27,37 @@ loop-holds c = refl
 shared-slice-read-if1 : tie.Need-shared-slice-read-if1 Inv-loop μ-loop
 shared-slice-read-if1 c = search needs
 
-returns : tie.Need-returns Inv-loop μ-loop
-returns c =
-    let loop = c .before .before in
-    let a = loop .before .before .args in
-    sym (any-stop (un (a .seen .now)) (loop .before .loop .r) (a .n) (loop .loop-test .taken) (ap not (ne-eqb _ 1 (c .if1 .taken)))) ∙ loop .before .loop .inv
-
 add-r : tie.Need-add-r Inv-loop μ-loop
 add-r c = search needs
 
 loop-less : tie.Need-loop-less Inv-loop μ-loop
 loop-less c = search needs
 
+-- record r that is not met once, and one that is
+here : (seen : List ℕ) (n r : ℕ) (found : Bool) → r < n → un seen r ≡ true → true ≡ (found || any (un seen) (upto r n))
+here seen n r found h t = sym (ap (λ x. found || x) (any-stop (un seen) r n h t) ∙ or-true found)
+
+past : (seen : List ℕ) (n r : ℕ) (found : Bool) → r < n → un seen r ≡ false → (found || any (un seen) (upto (r + 1) n)) ≡ (found || any (un seen) (upto r n))
+past seen n r found h t = ap (λ x. found || x) (any-next (un seen) r n h t)
+
 loop-again : tie.Need-loop-again Inv-loop μ-loop
 loop-again c =
-    let loop = c .before .before in
-    let a = loop .before .before .args in
-    any-next (un (a .seen .now)) (loop .before .loop .r) (a .n) (loop .loop-test .taken) (ap not (eq-eqb _ 1 (c .if1 .left))) ∙ loop .before .loop .inv
+    let in-loop = c .before .before in
+    let loop = in-loop .before .loop in
+    let a = in-loop .before .before .args in
+    let seen = a .seen .now in
+    let rest = any (un seen) (upto (loop .r + 1) (a .n)) in
+    ⊎-elim
+    (λ w. ap (λ t. t || rest) (w .1) ∙ here seen (a .n) (loop .r) (loop .found) (in-loop .loop-test .taken) (ap not (ne-eqb _ 1 (w .0 .taken))) ∙ loop .inv)
+    (λ w. ap (λ t. t || rest) (w .1) ∙ past seen (a .n) (loop .r) (loop .found) (in-loop .loop-test .taken) (ap not (eq-eqb _ 1 (w .0 .left))) ∙ loop .inv)
+    (c .if1 .came)
 
-returns-2 : tie.Need-returns-2 Inv-loop μ-loop
-returns-2 c =
+returns : tie.Need-returns Inv-loop μ-loop
+returns c =
     let a = c .before .before .args in
-    sym (any-done (un (a .seen .now)) (c .before .loop .r) (a .n) (c .loop-test .left)) ∙ c .before .loop .inv
+    let loop = c .before .loop in
+    sym (ap (λ x. loop .found || x) (any-done (un (a .seen .now)) (loop .r) (a .n) (c .loop-test .left)) ∙ or-false (loop .found)) ∙ loop .inv
 
 pub unmet-spec : {M : Type 1} → statement M
 unmet-spec =
-    tie.close
-    (tie.spec
-    Inv-loop
-    μ-loop
-    loop-holds
-    shared-slice-read-if1
-    returns
-    add-r
-    loop-less
-    loop-again
-    returns-2)
+    tie.close (tie.spec Inv-loop μ-loop loop-holds shared-slice-read-if1 add-r loop-less loop-again returns)

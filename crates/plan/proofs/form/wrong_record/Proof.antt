@@ -4,7 +4,6 @@ use mathlib.Core.Bool.{Bool, not, _&&_}
 use Prim.Native.Nat.{ℕ, _*_, _+_, _-_, _≤_, _<_}
 use mathlib.Core.List.{List}
 use borrow.Author.Needs.{needs}
-use borrow.Author.Tests.{not-true, not-false}
 use native.Mathlib.Omega.{arith}
 use lib.ListN.{length}
 use Rattle.plan.specs.Lists.{any, upto}
@@ -40,8 +39,8 @@ loop-holds : tie.Need-loop-holds Inv-loop μ-loop
 unfolding broken3
 loop-holds c = (c .before .records .ensures .0, c .field .ensures, omega arith, ap (λ n. any (wrong (c .before .before .before .args .p .now)) (upto 1 n)) (c .before .records .ensures .0))
 
-right-kind-requires : tie.Need-right-kind-requires Inv-loop μ-loop
-right-kind-requires c κs =
+right-record-requires : tie.Need-right-record-requires Inv-loop μ-loop
+right-record-requires c κs =
     let i = c .before .loop .inv in
     (i .1, room _ (c .before .before .before .before .before .pre) _ _ (i .0) (c .loop-test .taken))
 
@@ -49,28 +48,12 @@ returns : tie.Need-returns Inv-loop μ-loop
 returns c =
     let loop = c .before .before in
     let a = loop .before .before .before .before .before .args in
-    let k = sym (c .before .right-kind .ensures) ∙ not-true _ (c .if1 .taken) in
-    sym (any-stop (wrong (a .p .now)) (loop .before .loop .r) _ (loop .loop-test .taken) (ap (λ t. not (t && fits (a .p .now) (loop .before .loop .r))) k))
-    ∙ loop .before .loop .inv .3
-
-fits-requires : tie.Need-fits-requires Inv-loop μ-loop
-fits-requires c κs =
-    let loop = c .before .before in
-    let i = loop .before .loop .inv in
-    (i .1, room _ (loop .before .before .before .before .before .pre) _ _ (i .0) (loop .loop-test .taken))
-
-returns-2 : tie.Need-returns-2 Inv-loop μ-loop
-returns-2 c =
-    let loop = c .before .before .before .before in
-    let a = loop .before .before .before .before .before .args in
-    let k = sym (c .before .before .before .right-kind .ensures) ∙ not-false _ (c .before .before .if1 .left) in
-    let f = sym (c .before .fits2 .ensures) ∙ not-true _ (c .if2 .taken) in
-    sym (any-stop (wrong (a .p .now)) (loop .before .loop .r) _ (loop .loop-test .taken) (λ i. not (k i && f i)))
+    sym (any-stop (wrong (a .p .now)) (loop .before .loop .r) _ (loop .loop-test .taken) (ap not (sym (c .before .right-record .ensures)) ∙ c .if1 .taken))
     ∙ loop .before .loop .inv .3
 
 add-r : tie.Need-add-r Inv-loop μ-loop
 add-r c =
-    let loop = c .before .before .before .before in
+    let loop = c .before .before in
     omega (arith, loop .loop-test .taken, loop .before .before .before .records .ensures .1)
 
 loop-less : tie.Need-loop-less Inv-loop μ-loop
@@ -78,19 +61,17 @@ loop-less c = search needs
 
 loop-again : tie.Need-loop-again Inv-loop μ-loop
 loop-again c =
-    let loop = c .before .before .before .before in
+    let loop = c .before .before in
     let a = loop .before .before .before .before .before .args in
-    let inv = loop .before .loop .inv in
-    let k = sym (c .before .before .before .right-kind .ensures) ∙ not-false _ (c .before .before .if1 .left) in
-    let f = sym (c .before .fits2 .ensures) ∙ not-false _ (c .if2 .left) in (
+    let inv = loop .before .loop .inv in (
       inv .0,
       inv .1,
       omega arith,
-      any-next (wrong (a .p .now)) (loop .before .loop .r) _ (loop .loop-test .taken) (λ i. not (k i && f i)) ∙ inv .3,
+      any-next (wrong (a .p .now)) (loop .before .loop .r) _ (loop .loop-test .taken) (ap not (sym (c .before .right-record .ensures)) ∙ c .if1 .left) ∙ inv .3,
     )
 
-returns-3 : tie.Need-returns-3 Inv-loop μ-loop
-returns-3 c =
+returns-2 : tie.Need-returns-2 Inv-loop μ-loop
+returns-2 c =
     let a = c .before .before .before .before .before .args in
     sym (any-done (wrong (a .p .now)) (c .before .loop .r) _ (c .loop-test .left)) ∙ c .before .loop .inv .3
 
@@ -103,11 +84,9 @@ wrong-record-spec =
     records-requires
     field-requires
     loop-holds
-    right-kind-requires
+    right-record-requires
     returns
-    fits-requires
-    returns-2
     add-r
     loop-less
     loop-again
-    returns-3)
+    returns-2)
