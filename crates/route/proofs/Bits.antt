@@ -1,20 +1,26 @@
 -- Numbers by their bits: settings of modes, and masks.
 --
 --   isSet n k      bit k of n is 1
+--   or-set         the bits of either of two numbers
 --   or-power       setting bit i sets it and leaves the others
+--   without-set    the bits of a number that another does not have
+--   ones-set       the first w bits of 2^w - 1 are all 1
+--   lowest-none, lowest-set
+--                  the trailing zeros of a number: below so many none is 1, and the next is
 --   bits-equal     numbers of n bits with the same bits are equal
 --   shifted        w bits do not cut the bit of a lower place
 --   setting        for any choice of modes among 1 to M there is a setting below 2^M in which exactly the chosen ones are on
 --
 -- Everything goes bit by bit: bit j + 1 of a number is bit j of its half (half-set). Assumes nothing.
 use mathlib.Core.Path.{_≡_, refl, sym, _∙_, ap}
-use mathlib.Core.Bool.{Bool, true, false, _||_}
-use Prim.Native.Nat.{ℕ, zero, suc, _+_, _*_, _/_, _%_, _^_, _≤_, _<_}
+use mathlib.Core.Bool.{Bool, true, false, not, _&&_, _||_}
+use Prim.Native.Nat.{ℕ, zero, suc, _+_, _-_, _*_, _/_, _%_, _^_, _≤_, _<_}
 use native.Mathlib.Omega.{arith}
 use native.Mathlib.Nat.{one-mul, div-eq-of-lt, two-pow-succ}
 use native.Mathlib.Numerals.{one-add, sub-one}
 use lib.Pow.{pow-pos, shl-exact, shr-shr}
-use lib.Bits.{bitOr, or-shr, or-mod}
+use lib.Bits.{bitOr, bitXor, or-shr, or-mod, xor-shr, xor-mod}
+use lib.Count.{under, trailingZeros}
 use lib.Dec.{eqb, lit<, eqb·zero-suc, eqb·suc-zero, eqb·suc-suc}
 use Rattle.route.specs.Permission.{isOn}
 
@@ -47,14 +53,69 @@ or-one (suc zero) (suc zero) h k = refl
 or-one (suc zero) (suc (suc y)) h k = absurd (omega arith)
 or-one (suc (suc x)) y h k = absurd (omega arith)
 
+or-at : (n m j : ℕ) → bitOr n m / 2 ^ j % 2 ≡ bitOr (n / 2 ^ j % 2) (m / 2 ^ j % 2)
+or-at n m j = ap (λ (x : ℕ). x % 2) (or-shr n m j) ∙ or-mod (n / 2 ^ j) (m / 2 ^ j) 1
+
+pub or-set : (n m j : ℕ) → isSet (bitOr n m) j ≡ (isSet n j || isSet m j)
+or-set n m j = ap (λ (x : ℕ). eqb x 1) (or-at n m j) ∙ or-one (n / 2 ^ j % 2) (m / 2 ^ j % 2) (omega arith) (omega arith)
+
 pub or-power : (n i j : ℕ) → isSet (bitOr n (2 ^ i)) j ≡ (isSet n j || eqb j i)
-or-power n i j =
-    ap (λ (m : ℕ). eqb m 1) (ap (λ (m : ℕ). m % 2) (or-shr n (2 ^ i) j) ∙ or-mod (n / 2 ^ j) (2 ^ i / 2 ^ j) 1)
-    ∙ or-one (n / 2 ^ j % 2) (2 ^ i / 2 ^ j % 2) (omega arith) (omega arith)
-    ∙ ap (λ (t : Bool). isSet n j || t) (power-set i j)
+or-power n i j = or-set n (2 ^ i) j ∙ ap (λ (t : Bool). isSet n j || t) (power-set i j)
 
 pub shifted : (k w : ℕ) → k < w → (1 * 2 ^ k) % 2 ^ w ≡ 2 ^ k
 shifted k w h = shl-exact 1 k w (lit< tt) (omega arith) ∙ one-mul (2 ^ k)
+
+-- ---- taking bits away
+
+without-one : (x y : ℕ) → x < 2 → y < 2 → eqb (bitXor (bitOr x y) y) 1 ≡ (eqb x 1 && not (eqb y 1))
+without-one zero zero h k = refl
+without-one zero (suc zero) h k = refl
+without-one zero (suc (suc y)) h k = absurd (omega arith)
+without-one (suc zero) zero h k = refl
+without-one (suc zero) (suc zero) h k = refl
+without-one (suc zero) (suc (suc y)) h k = absurd (omega arith)
+without-one (suc (suc x)) y h k = absurd (omega arith)
+
+pub without-set : (n m j : ℕ) → isSet (bitXor (bitOr n m) m) j ≡ (isSet n j && not (isSet m j))
+without-set n m j =
+    let split = ap (λ (x : ℕ). x % 2) (xor-shr (bitOr n m) m j) ∙ xor-mod (bitOr n m / 2 ^ j) (m / 2 ^ j) 1 in
+    ap (λ (x : ℕ). eqb x 1) (split ∙ ap (λ (x : ℕ). bitXor x (m / 2 ^ j % 2)) (or-at n m j))
+    ∙ without-one (n / 2 ^ j % 2) (m / 2 ^ j % 2) (omega arith) (omega arith)
+
+-- ---- the lowest bit that is set
+
+pub ones-set : (w j : ℕ) → j < w → isSet (2 ^ w - 1) j ≡ true
+ones-set zero j h = absurd (omega arith)
+ones-set (suc w) zero h =
+    let odd : (2 ^ suc w - 1) / 2 ^ 0 % 2 ≡ 1 = omega (arith, two-pow-succ w, pow-pos w) in
+    ap (λ (n : ℕ). eqb n 1) odd
+ones-set (suc w) (suc j) h =
+    let half : (2 ^ suc w - 1) / 2 ≡ 2 ^ w - 1 = omega (arith, two-pow-succ w, pow-pos w) in
+    half-set (2 ^ suc w - 1) j ∙ ap (λ (n : ℕ). isSet n j) half ∙ ones-set w j (omega arith)
+
+pub lowest-none : (w n j : ℕ) → j < trailingZeros w n → isSet n j ≡ false
+unfolding trailingZeros
+lowest-none zero n j h = absurd (omega arith)
+lowest-none (suc w) n j h = go (n % 2) refl j (lowest-none w (n / 2)) h
+  where
+    go : (d : ℕ) → n % 2 ≡ d → (i : ℕ) → ((k : ℕ) → k < trailingZeros w (n / 2) → isSet (n / 2) k ≡ false)
+        → i < under d (trailingZeros w (n / 2)) → isSet n i ≡ false
+    go zero e zero below l = let even : n / 2 ^ 0 % 2 ≡ 0 = omega arith in ap (λ (x : ℕ). eqb x 1) even
+    go zero e (suc i) below l = half-set n i ∙ below i (omega arith)
+    go (suc d) e i below l = absurd (omega arith)
+
+pub lowest-set : (w n : ℕ) → trailingZeros w n < w → isSet n (trailingZeros w n) ≡ true
+unfolding trailingZeros
+lowest-set zero n h = absurd (omega arith)
+lowest-set (suc w) n h = go (n % 2) refl (lowest-set w (n / 2)) h
+  where
+    t : ℕ
+    t = trailingZeros w (n / 2)
+
+    go : (d : ℕ) → n % 2 ≡ d → (t < w → isSet (n / 2) t ≡ true) → under d t < suc w → isSet n (under d t) ≡ true
+    go zero e rest l = half-set n t ∙ rest (omega arith)
+    go (suc zero) e rest l = let odd : n / 2 ^ 0 % 2 ≡ 1 = omega arith in ap (λ (x : ℕ). eqb x 1) odd
+    go (suc (suc d)) e rest l = absurd (omega arith)
 
 -- ---- a bit as a number
 

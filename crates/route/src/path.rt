@@ -51,10 +51,9 @@ pub fn are_belts(p: &[u8], route: Route) -> bool
     requires { ⌜ Accepted (now p) × (route .count ≤ 255) ⌝ }
     ensures { λ v. ⌜ v ≡ all (λ (e : ℕ). mem e (namesOf (planOf (now (p .entry)) .belts))) (idsOf route) ⌝ }
 {
-    let belts = route.belts;
     let mut k = 0;
     while k < route.count {
-        let belt = belts[k];
+        let belt = route.belts[k];
         if !read::is_belt(p, belt) {
             return false;
         }
@@ -68,11 +67,10 @@ pub fn connects(p: &[u8], route: Route, s: usize, t: usize) -> bool
     requires { ⌜ Accepted (now p) × Known (now p) route × (1 ≤ s) × (s ≤ planOf (now p) .junctions) ⌝ }
     ensures { λ v. ⌜ v ≡ connects s t (routeIn (now (p .entry)) route) ⌝ }
 {
-    let belts = route.belts;
     let mut at = s;
     let mut k = 0;
     while k < route.count {
-        let belt = belts[k];
+        let belt = route.belts[k];
         if !read::leaves(p, belt, at) {
             return false;
         }
@@ -87,11 +85,10 @@ pub fn cost(p: &[u8], route: Route) -> u64
     requires { ⌜ Accepted (now p) × Known (now p) route ⌝ }
     ensures { λ v. ⌜ (v ≡ cost (routeIn (now (p .entry)) route)) × (v < costLimit) ⌝ }
 {
-    let belts = route.belts;
     let mut sum = 0;
     let mut k = 0;
     while k < route.count {
-        let belt = belts[k];
+        let belt = route.belts[k];
         sum += read::cost(p, belt);
         k += 1;
     }
@@ -103,15 +100,13 @@ fn lower(a: Route, b: Route) -> bool
     requires { ⌜ (a .count ≤ 255) × (b .count ≤ 255) ⌝ }
     ensures { λ v. ⌜ v ≡ lowerIds (idsOf a) (idsOf b) ⌝ }
 {
-    let firsts = a.belts;
-    let others = b.belts;
     let mut k = 0;
     while k < a.count {
         if k == b.count {
             return false;
         }
-        let first = firsts[k];
-        let other = others[k];
+        let first = a.belts[k];
+        let other = b.belts[k];
         if first.0 != other.0 {
             return first.0 < other.0;
         }

@@ -167,13 +167,12 @@ fn walk(p: &[u8], places: &[u8; 2048], fixings: Fixings, ways: Ways, s: usize, t
     requires { ⌜ Accepted (now p) × (now places ≡ namedPlaces (now p)) × OfNamed (now p) (fixings .required) × (1 ≤ s) × (t ≤ planOf (now p) .junctions) × (ways .cost ≡ costLimit → ⊥) × (ways .cost ≡ wayCost (wayIn (now p) fixings t s)) × Guides (now p) fixings t s (ways .firsts) ⌝ }
     ensures { λ v. ⌜ v ≡ relaxedAs (havingAll (subproblemIn (now (p .entry)) fixings) (wayIn (now (p .entry)) fixings t s)) ⌝ }
 {
-    let firsts = ways.firsts;
     let mut belts = [BeltId(0); 255];
     let mut count = 0;
     let mut seen = 0u64;
     let mut at = s;
     while at != t {
-        let belt = firsts[at];
+        let belt = ways.firsts[at];
         let place = named::place_of(places, belt);
         if masks::has(fixings.required, place) {
             seen = masks::with(seen, place);

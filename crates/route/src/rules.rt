@@ -14,11 +14,10 @@ pub fn marks(route: Route) -> [bool; 2048]
     requires { ⌜ Low route ⌝ }
     ensures { λ v. ⌜ v ≡ marksOf (idsOf route) ⌝ }
 {
-    let belts = route.belts;
     let mut on = [false; 2048];
     let mut k = 0;
     while k < route.count {
-        let belt = belts[k];
+        let belt = route.belts[k];
         on[belt.0 as usize] = true;
         k += 1;
     }

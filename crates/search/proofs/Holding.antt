@@ -2,9 +2,11 @@
 --
 --   places              the length of a Search's array, as the code tells it
 --   waiting-length      the first n masks of an array are n subproblems
---   branched-later      what `branchedTo` is where the order is not 0
---   branch-tested       steps 5 and 6: there is room for the children of the belt picked, and with them the Search is as it should be
---   held-valid          step 4: so it is with a new best route
+--   settledTo f o r v j the Search v once what becomes of its subproblem of the masks f, j, is done, with the relaxed route r and the order o
+--   Room v j            there is room for that
+--   Taken b v f         a Search from which the subproblem of the masks f was taken: there is room for its children
+--   Settles .. r st j   with what is done, the Search is valid, and stands for the state st
+--   compared-settles    steps 3 to 6, where there is a relaxed route: so it is
 --   newestOf, popped    the masks of the newest subproblem, and the Search without it, opened and counted
 --   newest-waits, count-few, popped-taken
 --                       the newest is the first that waits; at most 49 wait; without the newest there is room for its children
@@ -23,12 +25,12 @@ use native.Mathlib.Omega.{arith}
 use lib.Pow.{pow-pos}
 use lib.ListN.{length, getD, set, length-set, length-map, replicate}
 use lib.Seq.{getD-set-same, getD-set-other}
-use lib.Dec.{eqb, ltb}
+use lib.Dec.{eqb, ltb, eqb·suc-zero}
 use borrow.Author.Tests.{eqb-true, eqb-false}
 use Rattle.plan.specs.declared.named.Place.{Place}
 use Rattle.plan.specs.declared.named.Place.the-variants.{At}
 use Rattle.plan.specs.Lists.{count, mem}
-use Rattle.plan.specs.Plan.{Belt, planOf, named, placeOf}
+use Rattle.plan.specs.Plan.{planOf, named, placeOf}
 use Rattle.plan.specs.Reading.{Accepted}
 use Rattle.plan.proofs.Lists.{test, keep-in, keep-none, keep-cong}
 use Rattle.plan.proofs.Naming.{named-rises}
@@ -37,15 +39,17 @@ use Rattle.plan.proofs.Reading.{named-few}
 use Rattle.route.specs.declared.path.Route.{Route}
 use Rattle.route.specs.declared.relax.Fixings.{Fixings}
 use Rattle.route.specs.Subproblems.{Subproblem}
-use Rattle.route.specs.Values.{idsOf, packed, Known, inMask, withPlace, fixedIn, OfNamed, subproblemIn}
+use Rattle.route.specs.Values.{idsOf, packed, Known, routeIn, inMask, withPlace, fixedIn, OfNamed, subproblemIn}
 use Rattle.route.proofs.Fixed.{fixed-mem, with-belt, with-low, nothing-has}
 use Rattle.search.specs.declared.query.Query.{Query}
 use Rattle.search.specs.declared.state.Search.{Search}
+use Rattle.search.specs.declared.state.Judged.{Judged}
+use Rattle.search.specs.declared.state.Judged.the-variants.{Drop, Best, Branch}
 use Rattle.search.specs.Branching.{isFixed, unfixed, fixedCount, adding, requiring, forbidding, children, pickOf}
-use Rattle.search.specs.Search.{State, free, branched, tested, begun}
+use Rattle.search.specs.Search.{State, free, branched, settingOf, tested, compared, begun}
 use Rattle.search.specs.Answers.{problemIn}
 use Rattle.search.specs.Values.{pickedPlace, noFixings, firstSearch, waitingIn, stateIn, Deep, Valid}
-use Rattle.search.specs.Inner.{withBoth, Room, requiringAt, forbiddingAt, branchedTo, Taken}
+use Rattle.search.specs.Inner.{childAt, branchAt, testedAs, judgedIn}
 use Rattle.search.proofs.Branches.{fixed-unfixed, picks-unfixed}
 use Rattle.search.proofs.Depth.{deep-tested, deep-begun, deep-few}
 
@@ -120,11 +124,43 @@ module _ (b : List ℕ) (e : ℕ) (i : List·Memᴰ e (named (planOf b))) where
       with-belt (named-rises b) m e n i j ∙ ap (λ (t : Bool). t || eqb n e) (sym (fixed-mem ns m n)))
 
   module _ (f : Fixings) where
-    requiring-is : subproblemIn b (requiringAt f place) ≡ requiring (planOf b) (subproblemIn b f) e
+    requiring-is : subproblemIn b (childAt f place true) ≡ requiring (planOf b) (subproblemIn b f) e
     requiring-is = λ k. record { required = with-fixed (f .required) k; forbidden = fixedIn (named (planOf b)) (f .forbidden) }
 
-    forbidding-is : subproblemIn b (forbiddingAt f place) ≡ forbidding (planOf b) (subproblemIn b f) e
+    forbidding-is : subproblemIn b (childAt f place false) ≡ forbidding (planOf b) (subproblemIn b f) e
     forbidding-is = λ k. record { required = fixedIn (named (planOf b)) (f .required); forbidden = with-fixed (f .forbidden) k }
+
+-- ---- what is done with a subproblem that was taken
+
+-- two more wait
+abbrev withBoth : Fixings → Fixings → Search → Search
+withBoth older newer v = record {
+  waiting = set (set (v .waiting) (v .count) older) (v .count + 1) newer;
+  count = v .count + 2;
+  opened = v .opened;
+  best = v .best;
+  found = v .found;
+}
+
+-- a new best is held
+abbrev held : Search → Route → Search
+held v r = record { waiting = v .waiting; count = v .count; opened = v .opened; best = r; found = true }
+
+abbrev pub settledTo : Fixings → ℕ → Route → Search → Judged → Search
+settledTo f o r v Drop = v
+settledTo f o r v Best = held v r
+settledTo f o r v (Branch k) = withBoth (childAt f (At k) (eqb o 0)) (childAt f (At k) (not (eqb o 0))) v
+
+abbrev pub Room : Search → Judged → Type 0
+Room v Drop = Unit {0}
+Room v Best = Unit {0}
+Room v (Branch k) = (v .count ≤ 47) × (k < 64)
+
+pub record Taken (b : List ℕ) (v : Search) (f : Fixings) : Type 0 where
+  pub valid : Valid b v
+  pub required : OfNamed b (f .required)
+  pub forbidden : OfNamed b (f .forbidden)
+  pub room : v .count ≤ fixedCount (planOf b) (subproblemIn b f)
 
 -- ---- two more waiting
 
@@ -173,81 +209,17 @@ module _ (b : List ℕ) (v : Search) (size : length (v .waiting) ≡ 49) (room :
   grown-valid requires forbids r f valid zero deep = both-valid requires forbids r f valid deep
   grown-valid requires forbids r f valid (suc o) deep = both-valid forbids requires f r valid deep
 
--- ---- steps 5 and 6
+-- ---- steps 3 to 6
 
-pub branched-later : (f : Fixings) (k o : ℕ) (v : Search) → (o ≡ 0 → ⊥)
-    → branchedTo f (At k) o v ≡ withBoth (forbiddingAt f (At k)) (requiringAt f (At k)) v
-branched-later f k zero v h = absurd (h refl)
-branched-later f k (suc o) v h = refl
-
-branched-grown : (f : Fixings) (k o : ℕ) (v : Search) → branchedTo f (At k) o v ≡ grown (requiringAt f (At k)) (forbiddingAt f (At k)) o v
-branched-grown f k zero v = refl
-branched-grown f k (suc o) v = refl
+branch-grown : (f : Fixings) (k o : ℕ) (r : Route) (v : Search) → settledTo f o r v (Branch k) ≡ grown (childAt f (At k) true) (childAt f (At k) false) o v
+branch-grown f k zero r v = refl
+branch-grown f k (suc o) r v = ap (λ (t : Bool). withBoth (childAt f (At k) t) (childAt f (At k) (not t)) v) (eqb·suc-zero o)
 
 some-long : {A : Type 0} {a : A} (xs : List A) → List·Memᴰ a xs → 1 ≤ length xs
 some-long [] m = absurd (List·Memᴰ·not-nil m)
 some-long (x ∷ xs) m = omega arith
 
-module _ {b : List ℕ} (ok : Accepted b) (v : Search) (size : length (v .waiting) ≡ 49) (f : Fixings) (taken : Taken b v f) (q : Query) where
-  abbrev subproblem : Subproblem
-  subproblem = subproblemIn b f
-
-  -- the Search, branched on the belt o
-  abbrev after : Option ℕ → Search
-  after o = branchedTo f (pickedPlace (named (planOf b)) o) (q .order) v
-
-  record Branches (o : Option ℕ) : Type 0 where
-    room : Room v (pickedPlace (named (planOf b)) o)
-    state : stateIn b (after o) ≡ branched (problemIn b q) subproblem (stateIn b v) o
-    valid : Deep (planOf b) (branched (problemIn b q) subproblem (stateIn b v) o .waiting) → Valid b (after o)
-
-  few-wait : (e : ℕ) → List·Memᴰ e (unfixed (planOf b) subproblem) → v .count ≤ 47
-  few-wait e u =
-      omega (arith, taken .room, fixed-unfixed (planOf b) subproblem, some-long (unfixed (planOf b) subproblem) u, named-few ok)
-
-  branches : (o : Option ℕ) → ((e : ℕ) → o ≡ some e → List·Memᴰ e (unfixed (planOf b) subproblem)) → Branches o
-  branches none h = record { room = tt; state = refl; valid = λ deep. taken .valid }
-  branches (some e) h =
-      let ns = named (planOf b) in
-      let u = h e refl in
-      let i = keep-in (λ (n : ℕ). not (isFixed subproblem n)) ns u .0 in
-      let few : v .count ≤ 47 = few-wait e u in
-      let requires = requiringAt f (placeOf ns e) in
-      let forbids = forbiddingAt f (placeOf ns e) in
-      let whole : after (some e) ≡ grown requires forbids (q .order) v =
-      subst (λ (k : Place). branchedTo f k (q .order) v ≡ grown (requiringAt f k) (forbiddingAt f k) (q .order) v) (sym (place-in e ns i))
-      (branched-grown f (count (λ (n : ℕ). ltb n e) ns) (q .order) v) in
-      let state : stateIn b (grown requires forbids (q .order) v) ≡ branched (problemIn b q) subproblem (stateIn b v) (some e) =
-      grown-state b v size few requires forbids subproblem e (requiring-is b e i f) (forbidding-is b e i f) (q .order) in record {
-        room = subst (Room v) (sym (place-in e ns i)) (few, omega (arith, at-place e (named-rises b) i .1, named-few ok));
-        state = ap (stateIn b) whole ∙ state;
-        valid = λ deep.
-            subst (Valid b) (sym whole)
-            (grown-valid b v size few requires forbids
-            (with-low (named-rises b) (f .required) e i (taken .required), taken .forbidden)
-            (taken .required, with-low (named-rises b) (f .forbidden) e i (taken .forbidden))
-            (taken .valid)
-            (q .order)
-            (subst (λ (st : State). Deep (planOf b) (st .waiting)) (sym state) deep));
-      }
-
-  pub branch-tested : (r : List Belt) → let o = pickOf (q .pick) (planOf b) subproblem r in
-      Room v (pickedPlace (named (planOf b)) o)
-      × (stateIn b (after o) ≡ tested (problemIn b q) subproblem (stateIn b v) r none)
-      × Valid b (after o)
-  branch-tested r =
-      let p = planOf b in
-      let all = branches (pickOf (q .pick) p subproblem r) (picks-unfixed (q .pick) p subproblem r) in
-      let few : length (stateIn b v .waiting) ≤ fixedCount p subproblem = omega (arith, waiting-length b (v .waiting) (v .count), taken .room) in
-      let deep = deep-tested (problemIn b q) (picks-unfixed (q .pick) p) subproblem (stateIn b v) (taken .valid .deep) few r none in
-      (all .room, all .state, all .valid deep)
-
--- ---- step 4
-
-abbrev held : Search → Route → Search
-held v r = record { waiting = v .waiting; count = v .count; opened = v .opened; best = r; found = true }
-
-pub held-valid : {b : List ℕ} {v : Search} {r : Route} → Valid b v → Known b r → r ≡ packed (idsOf r) → Valid b (held v r)
+held-valid : {b : List ℕ} {v : Search} {r : Route} → Valid b v → Known b r → r ≡ packed (idsOf r) → Valid b (held v r)
 held-valid valid known rest-zero = record {
   required = valid .required;
   forbidden = valid .forbidden;
@@ -257,6 +229,69 @@ held-valid valid known rest-zero = record {
   rest-zero = rest-zero;
   unheld = λ h. absurd (true≢false h);
 }
+
+pub record Settles (b : List ℕ) (v : Search) (f : Fixings) (q : Query) (r : Route) (st : State) (j : Judged) : Type 0 where
+  pub room : Room v j
+  pub state : stateIn b (settledTo f (q .order) r v j) ≡ st
+  pub valid : Valid b (settledTo f (q .order) r v j)
+
+module _ {b : List ℕ} (ok : Accepted b) (v : Search) (size : length (v .waiting) ≡ 49) (f : Fixings) (taken : Taken b v f) (q : Query) (r : Route) where
+  abbrev subproblem : Subproblem
+  subproblem = subproblemIn b f
+
+  -- what becomes of it where it is branched on the belt o
+  abbrev at : Option ℕ → Judged
+  at o = branchAt (pickedPlace (named (planOf b)) o)
+
+  few-wait : (e : ℕ) → List·Memᴰ e (unfixed (planOf b) subproblem) → v .count ≤ 47
+  few-wait e u =
+      omega (arith, taken .room, fixed-unfixed (planOf b) subproblem, some-long (unfixed (planOf b) subproblem) u, named-few ok)
+
+  branch-settles : (o : Option ℕ) → ((e : ℕ) → o ≡ some e → List·Memᴰ e (unfixed (planOf b) subproblem))
+      → Deep (planOf b) (branched (problemIn b q) subproblem (stateIn b v) o .waiting)
+      → Settles b v f q r (branched (problemIn b q) subproblem (stateIn b v) o) (at o)
+  branch-settles none h deep = record { room = tt; state = refl; valid = taken .valid }
+  branch-settles (some e) h deep =
+      let ns = named (planOf b) in
+      let u = h e refl in
+      let i = keep-in (λ (n : ℕ). not (isFixed subproblem n)) ns u .0 in
+      let few : v .count ≤ 47 = few-wait e u in
+      let requires = childAt f (placeOf ns e) true in
+      let forbids = childAt f (placeOf ns e) false in
+      let whole : settledTo f (q .order) r v (at (some e)) ≡ grown requires forbids (q .order) v =
+      subst (λ (k : Place). settledTo f (q .order) r v (branchAt k) ≡ grown (childAt f k true) (childAt f k false) (q .order) v) (sym (place-in e ns i))
+      (branch-grown f (count (λ (n : ℕ). ltb n e) ns) (q .order) r v) in
+      let state : stateIn b (grown requires forbids (q .order) v) ≡ branched (problemIn b q) subproblem (stateIn b v) (some e) =
+      grown-state b v size few requires forbids subproblem e (requiring-is b e i f) (forbidding-is b e i f) (q .order) in record {
+        room = subst (λ (k : Place). Room v (branchAt k)) (sym (place-in e ns i)) (few, omega (arith, at-place e (named-rises b) i .1, named-few ok));
+        state = ap (stateIn b) whole ∙ state;
+        valid =
+            subst (Valid b) (sym whole)
+            (grown-valid b v size few requires forbids
+            (with-low (named-rises b) (f .required) e i (taken .required), taken .forbidden)
+            (taken .required, with-low (named-rises b) (f .forbidden) e i (taken .forbidden))
+            (taken .valid)
+            (q .order)
+            (subst (λ (st : State). Deep (planOf b) (st .waiting)) (sym state) deep));
+      }
+
+  module _ (known : Known b r) (rest-zero : r ≡ packed (idsOf r)) where
+    abbrev picked : Option ℕ
+    picked = pickOf (q .pick) (planOf b) subproblem (routeIn b r)
+
+    tested-settles : (o : Option ℕ)
+        → Settles b v f q r (tested (problemIn b q) subproblem (stateIn b v) (routeIn b r) o) (testedAs (pickedPlace (named (planOf b)) picked) o)
+    tested-settles (some σ) = record { room = tt; state = refl; valid = held-valid (taken .valid) known rest-zero }
+    tested-settles none =
+        let p = planOf b in
+        let few : length (stateIn b v .waiting) ≤ fixedCount p subproblem = omega (arith, waiting-length b (v .waiting) (v .count), taken .room) in
+        branch-settles picked (picks-unfixed (q .pick) p subproblem (routeIn b r))
+        (deep-tested (problemIn b q) (picks-unfixed (q .pick) p) subproblem (stateIn b v) (taken .valid .deep) few (routeIn b r) none)
+
+    pub compared-settles : (t : Bool)
+        → Settles b v f q r (compared (problemIn b q) subproblem (stateIn b v) (routeIn b r) t) (judgedIn b q f r t)
+    compared-settles true = tested-settles (settingOf (planOf b) (routeIn b r))
+    compared-settles false = record { room = tt; state = refl; valid = taken .valid }
 
 -- ---- the newest is taken
 

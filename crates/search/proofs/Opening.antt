@@ -3,24 +3,22 @@
 -- Step 3:
 --   no-route              an answer that none is found means that there is no relaxed route
 --   answered              an answer that one is found has it: it is of belts of the plan, and what is not in use is 0
---   considered-none, considered-late
---                         without a relaxed route, and where the best comes first, the subproblem is dropped
---   considered-first, considered-better
---                         else the relaxed route is tested
+--   judged-settles        what is done with a subproblem that was taken is what steps 3 to 6 do
 -- A whole step:
---   step-found, step-nothing, step-spent, step-goes
---                         each of its endings
+--   step-empty, step-spent, step-goes
+--                         where nothing waits, where the budget is spent, and where it goes on
 -- A run:
 --   Running b q v         what is left of the run from the Search v is the whole run
 --   running-first         so it is at the beginning
---   running-goes          and after a step that goes on, which leaves less of the budget
---   running-ends          a step that ends hands back what the whole run does
+--   Handed b q w e        what a step handed back, w with the ending e: the run goes on from it, or it is what the whole run hands back
+--   left q w e            how many steps are left, at most
+--   handed, fewer         so it is after one more step, which leaves fewer
 --
 -- Each goes by what was tested, clause by clause of the definition. Assumes nothing.
 use mathlib.Core.Path.{_≡_, refl, sym, _∙_, ap, subst}
-use mathlib.Core.Bool.{Bool, true, false, true≢false}
+use mathlib.Core.Bool.{Bool, true, false, _&&_, true≢false}
 use mathlib.Core.Option.{Option, none, some}
-use Prim.Native.Nat.{ℕ, suc, _+_, _-_, _≤_, _<_}
+use Prim.Native.Nat.{ℕ, zero, suc, _+_, _-_, _≤_, _<_}
 use mathlib.Core.List.{List, []}
 use native.Mathlib.Omega.{arith}
 use lib.ListN.{length}
@@ -29,8 +27,9 @@ use borrow.Author.Tests.{eq-eqb, ne-eqb}
 use Rattle.plan.specs.Plan.{Belt, planOf, namesOf}
 use Rattle.plan.specs.Reading.{Accepted, Bytes}
 use Rattle.route.specs.declared.path.Route.{Route}
+use Rattle.route.specs.declared.relax.Fixings.{Fixings}
 use Rattle.route.specs.declared.relax.Relaxed.{Relaxed}
-use Rattle.route.specs.Routes.{wrongEnds, before}
+use Rattle.route.specs.Routes.{wrongEnds}
 use Rattle.route.specs.Subproblems.{Subproblem, relaxed}
 use Rattle.route.specs.Values.{idsOf, packed, Known, routeIn, subproblemIn, relaxedAs}
 use Rattle.route.proofs.ByName.{ends-junctions, ids-packed}
@@ -38,12 +37,14 @@ use Rattle.route.proofs.Answered.{answer-claim}
 use Rattle.search.specs.declared.query.Query.{Query}
 use Rattle.search.specs.declared.state.Search.{Search}
 use Rattle.search.specs.declared.state.Stepped.{Stepped}
+use Rattle.search.specs.declared.state.Ending.{Ending}
 use Rattle.search.specs.declared.state.Ending.the-variants.{GoesOn, Found, Nothing, Spent}
-use Rattle.search.specs.Search.{State, Turn, settingOf, tested, compared, improves, considered, atEnd, budgeted, stepOf, step, runs, run}
+use Rattle.search.specs.Search.{State, Turn, improves, considered, atEnd, budgeted, stepOf, step, runs, run}
 use Rattle.search.specs.Answers.{problemIn}
 use Rattle.search.specs.Values.{firstSearch, waitingIn, bestIn, stateIn, turnIn, Valid}
+use Rattle.search.specs.Inner.{endedAs, betterIn, judgedIn}
 use Rattle.search.proofs.Steps.{run-goes, run-ends}
-use Rattle.search.proofs.Holding.{newestOf, popped, newest-waits, first-state, first-valid}
+use Rattle.search.proofs.Holding.{Taken, Settles, compared-settles, newestOf, popped, newest-waits, first-state, first-valid}
 
 -- ---- the answer
 
@@ -69,44 +70,47 @@ answered {b} ok bytes s t ends x w e h =
     let (known, is, costs, cheap) = answer-claim b ok bytes s t (inside .0) (inside .3) x w e h in
     (known, answer-packed (relaxed (planOf b) s t x) w e (known .few), is)
 
--- ---- whether it is tested
+-- ---- steps 3 to 6
 
-module _ (b : List ℕ) (q : Query) (x : Subproblem) (v : Search) {o : Option (List Belt)} where
-  pub considered-none : o ≡ none → stateIn b v ≡ considered (problemIn b q) x (stateIn b v) o
-  considered-none h = sym (ap (considered (problemIn b q) x (stateIn b v)) h)
+module _ {b : List ℕ} (ok : Accepted b) (bytes : Bytes b) (v : Search) (size : length (v .waiting) ≡ 49) (f : Fixings) (taken : Taken b v f) (q : Query)
+    (ends : wrongEnds (planOf b) (q .trip .s) (q .trip .t) ≡ false) (w : Relaxed) where
+  abbrev of-masks : Option (List Belt)
+  of-masks = relaxed (planOf b) (q .trip .s) (q .trip .t) (subproblemIn b f)
 
-  module _ (r : Route) (h : o ≡ some (routeIn b r)) where
-    -- it goes by whether the route improves on the best
-    weighed : (t : Bool) → improves (routeIn b r) (bestIn b (v .found) (v .best)) ≡ t
-        → compared (problemIn b q) x (stateIn b v) (routeIn b r) t ≡ considered (problemIn b q) x (stateIn b v) o
-    weighed t e = sym (ap (considered (problemIn b q) x (stateIn b v)) h ∙ ap (compared (problemIn b q) x (stateIn b v) (routeIn b r)) e)
+  pub judged-settles : w ≡ relaxedAs of-masks
+      → Settles b v f q (w .route) (considered (problemIn b q) (subproblemIn b f) (stateIn b v) of-masks) (judgedIn b q f (w .route) (betterIn b w (v .found) (v .best)))
+  judged-settles e = go (w .found) refl
+    where
+      by : Option (List Belt) → Bool → Type 0
+      by o t = Settles b v f q (w .route) (considered (problemIn b q) (subproblemIn b f) (stateIn b v) o) (judgedIn b q f (w .route) t)
 
-    pub considered-late : v .found ≡ true → before (routeIn b r) (routeIn b (v .best)) ≡ false → stateIn b v ≡ considered (problemIn b q) x (stateIn b v) o
-    considered-late f l = weighed false (ap (λ (t : Bool). improves (routeIn b r) (bestIn b t (v .best))) f ∙ l)
+      better : Bool
+      better = improves (routeIn b (w .route)) (bestIn b (v .found) (v .best))
 
-    pub considered-first : v .found ≡ false
-        → tested (problemIn b q) x (stateIn b v) (routeIn b r) (settingOf (planOf b) (routeIn b r)) ≡ considered (problemIn b q) x (stateIn b v) o
-    considered-first f = weighed true (ap (λ (t : Bool). improves (routeIn b r) (bestIn b t (v .best))) f)
-
-    pub considered-better : v .found ≡ true → before (routeIn b r) (routeIn b (v .best)) ≡ true
-        → tested (problemIn b q) x (stateIn b v) (routeIn b r) (settingOf (planOf b) (routeIn b r)) ≡ considered (problemIn b q) x (stateIn b v) o
-    considered-better f l = weighed true (ap (λ (t : Bool). improves (routeIn b r) (bestIn b t (v .best))) f ∙ l)
+      go : (t : Bool) → w .found ≡ t → by of-masks (t && better)
+      go false h =
+          subst (λ (o : Option (List Belt)). by o false) (sym (no-route of-masks w e h)) (record { room = tt; state = refl; valid = taken .valid })
+      go true h =
+          let (known, rest-zero, is) = answered ok bytes (q .trip .s) (q .trip .t) ends (subproblemIn b f) w e h in
+          subst (λ (o : Option (List Belt)). by o better) (sym is) (compared-settles ok v size f taken q (w .route) known rest-zero better)
 
 -- ---- a step
 
 module _ (b : List ℕ) (q : Query) (budget : ℕ) (v : Search) where
+  -- what a step that ends hands back
+  abbrev ends-with : Ending → Turn
+  ends-with e = record { state = stateIn b v; ending = e }
+
   -- nothing waits: it goes by whether a best is held
-  at-end : v .count ≡ 0 → (t : Bool) → v .found ≡ t
-      → record { state = stateIn b v; ending = atEnd (bestIn b t (v .best)) } ≡ step (problemIn b q) budget (stateIn b v)
-  at-end n t f =
-      sym (ap (stepOf (problemIn b q) budget (stateIn b v)) (ap (waitingIn b (v .waiting)) n)
-      ∙ ap (λ (found : Bool). record { state = stateIn b v; ending = atEnd (bestIn b found (v .best)) }) f)
-
-  pub step-found : v .count ≡ 0 → v .found ≡ true → turnIn b (record { search = v; ending = Found }) ≡ step (problemIn b q) budget (stateIn b v)
-  step-found n f = at-end n true f
-
-  pub step-nothing : v .count ≡ 0 → v .found ≡ false → turnIn b (record { search = v; ending = Nothing }) ≡ step (problemIn b q) budget (stateIn b v)
-  step-nothing n f = at-end n false f
+  pub step-empty : v .count ≡ 0 → ends-with (endedAs (v .count) (v .found)) ≡ step (problemIn b q) budget (stateIn b v)
+  step-empty n =
+      ap (λ (k : ℕ). ends-with (endedAs k (v .found))) n
+      ∙ ap ends-with (held (v .found))
+      ∙ sym (ap (stepOf (problemIn b q) budget (stateIn b v)) (ap (waitingIn b (v .waiting)) n))
+    where
+      held : (t : Bool) → endedAs 0 t ≡ atEnd (bestIn b t (v .best))
+      held true = refl
+      held false = refl
 
   -- the newest is taken
   module _ (waits : v .count ≡ 0 → ⊥) where
@@ -120,8 +124,12 @@ module _ (b : List ℕ) (q : Query) (budget : ℕ) (v : Search) where
         sym (ap (stepOf (problemIn b q) budget (stateIn b v)) (newest-waits b v waits)
         ∙ ap (budgeted (problemIn b q) (stateIn b v) taken (stateIn b (popped v) .waiting)) e)
 
-    pub step-spent : v .opened ≡ budget → turnIn b (record { search = v; ending = Spent }) ≡ step (problemIn b q) budget (stateIn b v)
-    step-spent e = by-budget true (eq-eqb (v .opened) budget e)
+    pub step-spent : v .opened ≡ budget → ends-with (endedAs (v .count) (v .found)) ≡ step (problemIn b q) budget (stateIn b v)
+    step-spent e = ap ends-with (spent (v .count) waits) ∙ by-budget true (eq-eqb (v .opened) budget e)
+      where
+        spent : (n : ℕ) → (n ≡ 0 → ⊥) → endedAs n (v .found) ≡ Spent
+        spent zero h = absurd (h refl)
+        spent (suc n) h = refl
 
     -- what the taken one leads to, where n are opened
     abbrev opened-to : ℕ → State
@@ -144,6 +152,18 @@ pub record Running (b : List ℕ) (q : Query) (v : Search) : Type 0 where
   pub within : v .opened ≤ q .budget
   pub left : runs (problemIn b q) (q .budget) (suc (q .budget - v .opened)) (stateIn b v) ≡ run (problemIn b q) (q .budget)
 
+abbrev pub Handed : List ℕ → Query → Stepped → Ending → Type 0
+Handed b q w GoesOn = Running b q (w .search)
+Handed b q w Found = (turnIn b w ≡ run (problemIn b q) (q .budget)) × Valid b (w .search)
+Handed b q w Nothing = (turnIn b w ≡ run (problemIn b q) (q .budget)) × Valid b (w .search)
+Handed b q w Spent = (turnIn b w ≡ run (problemIn b q) (q .budget)) × Valid b (w .search)
+
+abbrev pub left : Query → Stepped → Ending → ℕ
+left q w GoesOn = suc (q .budget - w .search .opened)
+left q w Found = 0
+left q w Nothing = 0
+left q w Spent = 0
+
 module _ (b : List ℕ) (q : Query) where
   pub running-first : (v : Search) → v ≡ firstSearch → Running b q v
   running-first v e =
@@ -156,7 +176,7 @@ module _ (b : List ℕ) (q : Query) where
 
   -- a step from v
   module _ {v : Search} (now : Running b q v) (w : Stepped) (h : turnIn b w ≡ step (problemIn b q) (q .budget) (stateIn b v)) where
-    pub running-goes : Valid b (w .search) → w .ending ≡ GoesOn → Running b q (w .search) × (q .budget - w .search .opened < q .budget - v .opened)
+    running-goes : Valid b (w .search) → w .ending ≡ GoesOn → Running b q (w .search) × (q .budget - w .search .opened < q .budget - v .opened)
     running-goes valid e =
         let state : stateIn b (w .search) ≡ step (problemIn b q) (q .budget) (stateIn b v) .state = ap (λ (t : Turn). t .state) h in
         let goes = run-goes (problemIn b q) (q .budget) (stateIn b v) (now .within) (sym (ap (λ (t : Turn). t .ending) h) ∙ e) in
@@ -166,8 +186,26 @@ module _ (b : List ℕ) (q : Query) where
         ap (λ (st : State). runs (problemIn b q) (q .budget) (suc (q .budget - st .opened)) st) state ∙ sym (goes .2) ∙ now .left in
         (record { valid = valid; within = omega (arith, one, below); left = left }, omega (arith, one, below))
 
-    pub running-ends : (w .ending ≡ GoesOn → ⊥) → turnIn b w ≡ run (problemIn b q) (q .budget)
+    running-ends : (w .ending ≡ GoesOn → ⊥) → turnIn b w ≡ run (problemIn b q) (q .budget)
     running-ends d =
         h
         ∙ sym (run-ends (problemIn b q) (q .budget) (q .budget - v .opened) (stateIn b v) (λ e. d (ap (λ (t : Turn). t .ending) h ∙ e)))
         ∙ now .left
+
+    pub handed : Valid b (w .search) → Handed b q w (w .ending)
+    handed valid = go (w .ending) refl
+      where
+        go : (e : Ending) → w .ending ≡ e → Handed b q w e
+        go GoesOn k = running-goes valid k .0
+        go Found k = (running-ends (λ l. let z : _≡_ {A = ℕ} 0 1 = cc in absurd (omega arith)), valid)
+        go Nothing k = (running-ends (λ l. let z : _≡_ {A = ℕ} 0 1 = cc in absurd (omega arith)), valid)
+        go Spent k = (running-ends (λ l. let z : _≡_ {A = ℕ} 0 1 = cc in absurd (omega arith)), valid)
+
+    pub fewer : Valid b (w .search) → left q w (w .ending) < suc (q .budget - v .opened)
+    fewer valid = go (w .ending) refl
+      where
+        go : (e : Ending) → w .ending ≡ e → left q w e < suc (q .budget - v .opened)
+        go GoesOn k = omega (arith, running-goes valid k .1)
+        go Found k = omega arith
+        go Nothing k = omega arith
+        go Spent k = omega arith

@@ -1,10 +1,12 @@
 -- The picks: the code tells belts by their places among the named belts, and picks as the definition does.
 --
---   find-here, find-past, find-over
---                     the first place from k on that is kept and passes: it is k, or that of the places behind k
---   busier-later, busier-first, busier-below
---                     the one of two places with the higher count, and that it is below 48
---   combined xs q o   the best q so far with the busiest o of the places left; combined-first, combined-next: it is the busiest of all
+--   lowest-here, lowest-over
+--                     the first place that is kept and passes, by the trailing zeros of a mask of such places
+--   free-bits         the mask of the places that are unfixed and in a mask
+--   find-all          where every place passes, the first of all
+--   Tops xs o t j n   whether a best place is held, t, which, j, and its count in xs, n, say of the busiest place what o does
+--   tops-taken, tops-kept, tops-found, tops-none
+--                     one more place, which becomes the best or does not, and the end
 --   else-at, else-none
 --                     a place that was looked for, or else another
 --   picks-lowest, picks-busiest, picks-on
@@ -16,21 +18,23 @@
 -- is chosen among the others at the same position: Matched says of two choices that they are none and none, or a belt and its place.
 -- Assumes nothing.
 use mathlib.Core.Path.{_≡_, refl, sym, _∙_, ap, subst}
-use mathlib.Core.Bool.{Bool, true, false, not, _||_}
+use mathlib.Core.Bool.{Bool, true, false, not, _&&_, _||_, and-true, true≢false}
 use mathlib.Core.Option.{Option, none, some}
 use Prim.Native.Nat.{ℕ, zero, suc, _+_, _-_, _≤_, _<_}
 use mathlib.Core.List.{List, [], _∷_, map, head?, List·Memᴰ, List·Memᴰ·head, List·Memᴰ·tail}
 use native.Mathlib.Omega.{arith}
+use native.Mathlib.Numerals.{add-one}
+use lib.Bits.{bitOr, bitXor}
+use lib.Count.{trailingZeros}
 use lib.ListN.{length, getD}
 use lib.Dec.{ltb}
-use borrow.Author.Tests.{lt-ltb, le-ltb, ltb-true, ltb-false}
-use Rattle.plan.specs.declared.named.Place.{Place}
+use borrow.Author.Tests.{lt-ltb, le-ltb}
 use Rattle.plan.specs.declared.named.Place.the-variants.{At, Unnamed}
 use Rattle.plan.specs.Lists.{keep, mem, run, upto}
 use Rattle.plan.specs.Plan.{Belt, Plan, planOf, namesOf, named}
 use Rattle.plan.specs.Reading.{Accepted}
-use Rattle.plan.proofs.Lists.{keep-in, map-run, upto-in, keep-cong, keep-map}
-use Rattle.plan.proofs.Counts.{keep-first, keep-rest}
+use Rattle.plan.proofs.Lists.{both, keep-in, map-run, upto-in, keep-cong, keep-map}
+use Rattle.plan.proofs.Counts.{keep-first, keep-rest, keep-done}
 use Rattle.plan.proofs.Rising.{Rises}
 use Rattle.plan.proofs.Naming.{names-back, named-rises}
 use Rattle.plan.proofs.Reading.{belt-low}
@@ -38,74 +42,84 @@ use Rattle.route.specs.declared.path.Route.{Route}
 use Rattle.route.specs.declared.relax.Fixings.{Fixings}
 use Rattle.route.specs.Permission.{passes, find, orElse, otherwise}
 use Rattle.route.specs.Values.{idsOf, Known, routeIn, inMask, LowPlace, fixedIn, subproblemIn, namedPlaces}
+use Rattle.route.proofs.Bits.{or-set, without-set, lowest-none, lowest-set}
 use Rattle.route.proofs.ByName.{passes-names, known-route}
 use Rattle.route.proofs.Fixed.{fixed-mem, place-low, looked-up}
 use Rattle.search.specs.Branching.{isFixed, unfixed, ruleCount, higher, highest, pickOf}
 use Rattle.search.specs.Values.{countsOf, pickedPlace}
-use Rattle.search.specs.Inner.{Low, gatheredIn, unfixedAt, unfixedPlaces, atPlace, Below, countAt, busierAt}
+use Rattle.search.specs.Inner.{Low, gatheredIn, unfixedAt, unfixedPlaces, atPlace, countAt}
 use Rattle.search.proofs.Counting.{stands, gathered-at, counts-at}
 
--- ---- the first place from k on that is kept and passes
+-- ---- the first place that is kept and passes
 
-module _ (f g : ℕ → Bool) (k n : ℕ) (l : k < n) where
-  -- k is kept
-  looked-at : f k ≡ true → (t : Bool) → g k ≡ t → find g (keep f (upto k n)) ≡ orElse t k (find g (keep f (upto (k + 1) n)))
-  looked-at h t q = ap (find g) (keep-first f k n l h) ∙ ap (λ (s : Bool). orElse s k (find g (keep f (upto (k + 1) n)))) q
+module _ (f g : ℕ → Bool) (n : ℕ) where
+  -- the places from k on
+  abbrev found-from : ℕ → Option ℕ
+  found-from k = find g (keep f (upto k n))
 
-  pub find-here : f k ≡ true → g k ≡ true → find g (keep f (upto k n)) ≡ some k
-  find-here h q = looked-at h true q
+  -- where k is kept
+  at-kept : (k : ℕ) → k < n → f k ≡ true → (t : Bool) → g k ≡ t → found-from k ≡ orElse t k (found-from (k + 1))
+  at-kept k l h t q = ap (find g) (keep-first f k n l h) ∙ ap (λ (s : Bool). orElse s k (found-from (k + 1))) q
 
-  pub find-past : f k ≡ true → g k ≡ false → find g (keep f (upto (k + 1) n)) ≡ find g (keep f (upto k n))
-  find-past h q = sym (looked-at h false q)
+  -- one that is not kept, or does not pass, is passed over
+  passed-over : (k : ℕ) → k < n → (g k && f k) ≡ false → found-from k ≡ found-from (suc k)
+  passed-over k l h = go (f k) refl ∙ ap found-from (add-one k)
+    where
+      go : (t : Bool) → f k ≡ t → found-from k ≡ found-from (k + 1)
+      go false e = ap (find g) (keep-rest f k n l e)
+      go true e = at-kept k l e false (sym (and-true (g k)) ∙ sym (ap (λ (t : Bool). g k && t) e) ∙ h)
 
-  pub find-over : f k ≡ false → find g (keep f (upto (k + 1) n)) ≡ find g (keep f (upto k n))
-  find-over h = sym (ap (find g) (keep-rest f k n l h))
+  all-over : (k : ℕ) → k ≤ n → ((j : ℕ) → j < k → (g j && f j) ≡ false) → found-from 0 ≡ found-from k
+  all-over zero l h = refl
+  all-over (suc k) l h = all-over k (omega arith) (λ j m. h j (omega arith)) ∙ passed-over k (omega arith) (h k (omega arith))
+
+  module _ (w x : ℕ) (few : n ≤ w) (bits : (k : ℕ) → inMask x (At k) ≡ (g k && f k)) where
+    pub lowest-here : trailingZeros w x < n → found-from 0 ≡ some (trailingZeros w x)
+    lowest-here l =
+        let k = trailingZeros w x in
+        let (passes-k, kept-k) = both (g k) (f k) (sym (bits k) ∙ lowest-set w x (omega arith)) in
+        all-over k (omega arith) (λ j m. sym (bits j) ∙ lowest-none w x j m) ∙ at-kept k l kept-k true passes-k
+
+    pub lowest-over : n ≤ trailingZeros w x → found-from 0 ≡ none
+    lowest-over l =
+        all-over n (omega arith) (λ j m. sym (bits j) ∙ lowest-none w x j (omega arith)) ∙ ap (find g) (keep-done f n n (omega arith))
+
+pub free-bits : (f : Fixings) (m k : ℕ) → let fixed = bitOr (f .required) (f .forbidden) in
+    inMask (bitXor (bitOr m fixed) fixed) (At k) ≡ (inMask m (At k) && unfixedAt f k)
+free-bits f m k =
+    without-set m (bitOr (f .required) (f .forbidden)) k
+    ∙ ap (λ (t : Bool). inMask m (At k) && not t) (or-set (f .required) (f .forbidden) k)
+
+pub find-all : (g : ℕ → Bool) (ks : List ℕ) → ((k : ℕ) → List·Memᴰ k ks → g k ≡ true) → find g ks ≡ head? ks
+find-all g [] h = refl
+find-all g (k ∷ ks) h = ap (λ (t : Bool). orElse t k (find g ks)) (h k (List·Memᴰ·head refl))
 
 -- ---- the busiest, place by place
 
+abbrev pub Tops : List ℕ → Option ℕ → Bool → ℕ → ℕ → Type 0
+Tops xs none t j n = (t ≡ false) × (n ≡ 0)
+Tops xs (some k) t j n = (t ≡ true) × (j ≡ k) × (n ≡ countAt xs k)
+
 module _ (xs : List ℕ) where
-  -- the count at place k
-  abbrev at : ℕ → ℕ
-  at k = getD xs k 0
+  pub tops-taken : (o : Option ℕ) (t : Bool) (j n k : ℕ) → Tops xs o t j n → n ≤ countAt xs k → Tops xs (higher (countAt xs) k o) true k (countAt xs k)
+  tops-taken none t j n k h l = (refl, refl, refl)
+  tops-taken (some i) t j n k h l =
+      subst (λ (s : Bool). Tops xs (elim s [ true ↦ some i | false ↦ some k ]) true k (countAt xs k))
+      (sym (le-ltb (countAt xs k) (countAt xs i) (omega (arith, h .2)))) (refl, refl, refl)
 
-  pub busier-later : (j k : ℕ) → at j < at k → busierAt xs (At j) k ≡ At k
-  busier-later j k h = ap (λ (t : Bool). elim t [ true ↦ At k | false ↦ At j ]) (lt-ltb (at j) (at k) h)
+  pub tops-kept : (o : Option ℕ) (t : Bool) (j n k : ℕ) → Tops xs o t j n → countAt xs k < n → Tops xs (higher (countAt xs) k o) t j n
+  tops-kept none t j n k h l = absurd (omega (arith, h .1))
+  tops-kept (some i) t j n k h l =
+      subst (λ (s : Bool). Tops xs (elim s [ true ↦ some i | false ↦ some k ]) t j n)
+      (sym (lt-ltb (countAt xs k) (countAt xs i) (omega (arith, h .2)))) h
 
-  pub busier-first : (j k : ℕ) → at k ≤ at j → busierAt xs (At j) k ≡ At j
-  busier-first j k h = ap (λ (t : Bool). elim t [ true ↦ At k | false ↦ At j ]) (le-ltb (at j) (at k) h)
+  pub tops-found : (o : Option ℕ) (t : Bool) (j n : ℕ) → Tops xs o t j n → t ≡ true → At j ≡ atPlace o
+  tops-found none t j n h e = absurd (true≢false (sym e ∙ h .0))
+  tops-found (some k) t j n h e = ap (λ (i : ℕ). At i) (h .1)
 
-  pub busier-below : (q : Place) (k : ℕ) → Below q → k < 48 → Below (busierAt xs q k)
-  busier-below Unnamed k h l = l
-  busier-below (At j) k h l = go (ltb (at j) (at k))
-    where
-      go : (t : Bool) → Below (elim t [ true ↦ At k | false ↦ At j ])
-      go true = l
-      go false = h
-
-  abbrev pub combined : Place → Option ℕ → Place
-  combined q none = q
-  combined q (some k) = busierAt xs q k
-
-  pub combined-first : (o : Option ℕ) → combined Unnamed o ≡ atPlace o
-  combined-first none = refl
-  combined-first (some k) = refl
-
-  pub combined-next : (q : Place) (k : ℕ) (o : Option ℕ) → combined q (higher (countAt xs) k o) ≡ combined (busierAt xs q k) o
-  combined-next q k none = refl
-  combined-next Unnamed k (some j) = go (ltb (at k) (at j))
-    where
-      go : (t : Bool) → combined Unnamed (elim t [ true ↦ some j | false ↦ some k ]) ≡ elim t [ true ↦ At j | false ↦ At k ]
-      go true = refl
-      go false = refl
-  combined-next (At i) k (some j) = go (ltb (at k) (at j)) refl (ltb (at i) (at k)) refl
-    where
-      go : (s : Bool) → ltb (at k) (at j) ≡ s → (t : Bool) → ltb (at i) (at k) ≡ t
-          → combined (At i) (elim s [ true ↦ some j | false ↦ some k ]) ≡ busierAt xs (elim t [ true ↦ At k | false ↦ At i ]) j
-      go true h true l = busier-later i j (omega (arith, ltb-true (at k) (at j) h, ltb-true (at i) (at k) l)) ∙ sym (busier-later k j (ltb-true (at k) (at j) h))
-      go true h false l = refl
-      go false h true l = busier-later i k (ltb-true (at i) (at k) l) ∙ sym (busier-first k j (ltb-false (at k) (at j) h))
-      go false h false l =
-          busier-first i k (ltb-false (at i) (at k) l) ∙ sym (busier-first i j (omega (arith, ltb-false (at k) (at j) h, ltb-false (at i) (at k) l)))
+  pub tops-none : (o : Option ℕ) (t : Bool) (j n : ℕ) → Tops xs o t j n → t ≡ false → Unnamed ≡ atPlace o
+  tops-none none t j n h e = refl
+  tops-none (some k) t j n h e = absurd (true≢false (sym (h .0) ∙ e))
 
 -- ---- a place that was looked for, or else another
 

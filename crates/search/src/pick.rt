@@ -18,13 +18,16 @@ ghost use Rattle.route.specs.Permission.{find, otherwise};
 ghost use Rattle.route.specs.Values.{idsOf, Known, routeIn, inMask, subproblemIn, namedPlaces};
 ghost use Rattle.search.specs.Branching.{highest, pickOf};
 ghost use Rattle.search.specs.Values.{countsOf, pickedPlace};
-ghost use Rattle.search.specs.Inner.{Low, beltsIn, gatheredIn, withRule, unfixedAt, unfixedPlaces, atPlace, Below, countAt, busierAt};
+ghost use Rattle.search.specs.Inner.{Low, beltsIn, gatheredIn, withRule, unfixedPlaces, atPlace, countAt};
 
 // What the picks go by beside a subproblem and its relaxed route: how many named belts there are, and in how many rules each of them is.
 pub struct Counts {
     pub named: usize,
     pub rules: [u16; 48],
 }
+
+// The mask with every place in it.
+const ALL: u64 = 18446744073709551615;
 
 // The named belts in a rule, as a mask.
 fn in_rule(p: &[u8], places: &[u8; 2048], rule: RuleId) -> u64
@@ -87,26 +90,27 @@ fn on_route(places: &[u8; 2048], route: Route) -> u64
     requires { ⌜ Low (now places) route ⌝ }
     ensures { λ v. ⌜ v ≡ gatheredIn (now (places .entry)) 0 (idsOf route) ⌝ }
 {
-    let belts = route.belts;
     let mut mask = 0u64;
     let mut k = 0;
     while k < route.count {
-        let belt = belts[k];
+        let belt = route.belts[k];
         mask = masks::with(mask, named::place_of(places, belt));
         k += 1;
     }
     mask
 }
 
-// Whether the belt at place k is unfixed.
-fn is_unfixed(fixings: Fixings, k: usize) -> bool
-    requires { ⌜ k < 48 ⌝ }
-    ensures { λ v. ⌜ v ≡ unfixedAt fixings k ⌝ }
+// The lowest unfixed belt in a mask: below the lowest bit that is 1 there are as many zeros as its place says.
+fn lowest_in(fixings: Fixings, count: usize, mask: u64) -> Place
+    requires { ⌜ count ≤ 48 ⌝ }
+    ensures { λ v. ⌜ v ≡ atPlace (find (λ (k : ℕ). inMask mask (At k)) (unfixedPlaces fixings count)) ⌝ }
 {
-    if masks::has(fixings.required, Place::At(k)) {
-        return false;
+    let fixed = fixings.required | fixings.forbidden;
+    let k = u64::trailing_zeros((mask | fixed) ^ fixed) as usize;
+    if k < count {
+        return Place::At(k);
     }
-    !masks::has(fixings.forbidden, Place::At(k))
+    Place::Unnamed
 }
 
 // The lowest unfixed belt.
@@ -114,64 +118,34 @@ fn lowest(fixings: Fixings, count: usize) -> Place
     requires { ⌜ count ≤ 48 ⌝ }
     ensures { λ v. ⌜ v ≡ atPlace (head? (unfixedPlaces fixings count)) ⌝ }
 {
-    let mut k = 0;
-    while k < count {
-        if is_unfixed(fixings, k) {
-            return Place::At(k);
-        }
-        k += 1;
-    }
-    Place::Unnamed
+    lowest_in(fixings, count, ALL)
 }
 
-// The lowest unfixed belt in a mask.
-fn lowest_in(fixings: Fixings, count: usize, mask: u64) -> Place
-    requires { ⌜ count ≤ 48 ⌝ }
-    ensures { λ v. ⌜ v ≡ atPlace (find (λ (k : ℕ). inMask mask (At k)) (unfixedPlaces fixings count)) ⌝ }
-{
-    let mut k = 0;
-    while k < count {
-        if is_unfixed(fixings, k) {
-            if masks::has(mask, Place::At(k)) {
-                return Place::At(k);
-            }
-        }
-        k += 1;
-    }
-    Place::Unnamed
-}
-
-// The one in more rules of the best so far, if there is one, and the belt at place k; of equals the best so far.
-fn busier(rules: [u16; 48], best: Place, k: usize) -> Place
-    requires { ⌜ Below best × (k < 48) ⌝ }
-    ensures { λ v. ⌜ v ≡ busierAt rules best k ⌝ }
-{
-    match best {
-        Place::At(j) => {
-            if rules[j] < rules[k] {
-                return Place::At(k);
-            }
-            best
-        }
-        Place::Unnamed => Place::At(k),
-    }
-}
-
-// The unfixed belt in most rules, the lowest of equals.
+// The unfixed belt in most rules, the lowest of equals: the places are gone through downwards, and a later one replaces an equal.
 fn busiest(fixings: Fixings, counts: Counts) -> Place
     requires { ⌜ counts .named ≤ 48 ⌝ }
     ensures { λ v. ⌜ v ≡ atPlace (highest (countAt (counts .rules)) (unfixedPlaces fixings (counts .named))) ⌝ }
 {
-    let rules = counts.rules;
-    let mut best = Place::Unnamed;
-    let mut k = 0;
-    while k < counts.named {
-        if is_unfixed(fixings, k) {
-            best = busier(rules, best, k);
+    let fixed = fixings.required | fixings.forbidden;
+    let mut found = false;
+    let mut best = 0;
+    let mut most = 0u16;
+    let mut k = counts.named;
+    while k != 0 {
+        k -= 1;
+        if !masks::has(fixed, Place::At(k)) {
+            let rules = counts.rules[k];
+            if most <= rules {
+                found = true;
+                best = k;
+                most = rules;
+            }
         }
-        k += 1;
     }
-    best
+    if found {
+        return Place::At(best);
+    }
+    Place::Unnamed
 }
 
 // The lowest unfixed belt on the route, else the lowest.

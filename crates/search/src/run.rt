@@ -9,19 +9,21 @@ ghost use Rattle.search.specs.Search.{run};
 ghost use Rattle.search.specs.Answers.{problemIn};
 ghost use Rattle.search.specs.Values.{turnIn, Valid, Ready};
 
-// Steps until one ends. `places` and `counts` are those of the plan (plan::named::named_places, pick::rule_counts).
+// Steps until one ends. `places` and `counts` are those of the plan (plan::named::named_places, pick::rule_counts). What a step hands back
+// stays whole: to take the search out of it would copy it.
 pub fn run(p: &[u8], places: &[u8; 2048], counts: Counts, query: Query) -> Stepped
     requires { ⌜ Ready (now p) (now places) counts query ⌝ }
     ensures { λ v. ⌜ (turnIn (now (p .entry)) v ≡ run (problemIn (now (p .entry)) query) (query .budget)) × Valid (now (p .entry)) (v .search) ⌝ }
 {
-    let mut search = state::begin();
+    let mut stepped = Stepped {
+        search: state::begin(),
+        ending: Ending::GoesOn,
+    };
     loop {
-        let stepped = search.step(p, places, counts, query);
         let ending = stepped.ending;
         match ending {
             Ending::GoesOn => {
-                let next = stepped.search;
-                search = next;
+                stepped = stepped.search.step(p, places, counts, query);
             }
             Ending::Found => return stepped,
             Ending::Nothing => return stepped,

@@ -11,11 +11,15 @@ use route::path;
 use route::path::Route;
 use route::relax;
 use route::relax::Fixings;
+use route::relax::Relaxed;
 ghost use mathlib.Core.Path.{_≡_};
-ghost use Prim.Native.Nat.{_≤_};
-ghost use Rattle.route.specs.Values.{idsOf, packed, Known};
-ghost use Rattle.search.specs.Values.{turnIn, Valid, firstSearch, Ready, stepIn};
-ghost use Rattle.search.specs.Inner.{withBoth, Room, branchedTo, Taken, Stands, testedIn, openedIn};
+ghost use mathlib.Core.Bool.{true};
+ghost use Prim.Native.Nat.{_≤_, _<_};
+ghost use Rattle.plan.specs.declared.named.Place.the-variants.{At};
+ghost use Rattle.plan.specs.Reading.{Accepted};
+ghost use Rattle.route.specs.Values.{Known};
+ghost use Rattle.search.specs.Values.{turnIn, Valid, firstSearch, noFixings, Ready, stepIn};
+ghost use Rattle.search.specs.Inner.{endedAs, childAt, betterIn, judgedIn};
 
 // A search: the subproblems that wait are the first `count` of the array, the newest last; how many have been opened; and the best route
 // so far, if one is found. What is not in use is 0. It is handed on by value, and holds nothing that follows from the rest of it.
@@ -45,15 +49,33 @@ pub struct Stepped {
     pub ending: Ending,
 }
 
+// What becomes of a subproblem that was taken.
+enum Judged {
+    // It is dropped.
+    Drop,
+    // Its relaxed route becomes the best.
+    Best,
+    // Its children for the named belt at this place wait.
+    Branch(usize),
+}
+
+// The subproblem that fixes nothing.
+fn free() -> Fixings
+    ensures { λ v. ⌜ v ≡ noFixings ⌝ }
+{
+    Fixings {
+        required: 0,
+        forbidden: 0,
+    }
+}
+
 // A search at its beginning: the subproblem that fixes nothing waits.
 pub fn begin() -> Search
     ensures { λ v. ⌜ v ≡ firstSearch ⌝ }
 {
+    let none = free();
     Search {
-        waiting: [Fixings {
-            required: 0,
-            forbidden: 0,
-        }; 49],
+        waiting: [none; 49],
         count: 1,
         opened: 0,
         best: Route {
@@ -64,130 +86,118 @@ pub fn begin() -> Search
     }
 }
 
+// Steps 1 and 2: how a search ends where nothing waits, or where some wait and the budget is spent.
+fn ended(count: usize, found: bool) -> Ending
+    ensures { λ v. ⌜ v ≡ endedAs count found ⌝ }
+{
+    if count != 0 {
+        return Ending::Spent;
+    }
+    if found {
+        return Ending::Found;
+    }
+    Ending::Nothing
+}
+
+// Step 3: whether there is a relaxed route and it comes before the best, if one is found.
+fn improves(p: &[u8], relaxed: Relaxed, found: bool, best: Route) -> bool
+    requires { ⌜ Accepted (now p) × (relaxed .found ≡ true → Known (now p) (relaxed .route)) × Known (now p) best ⌝ }
+    ensures { λ v. ⌜ v ≡ betterIn (now (p .entry)) relaxed found best ⌝ }
+{
+    if !relaxed.found {
+        return false;
+    }
+    if !found {
+        return true;
+    }
+    path::before(p, relaxed.route, best)
+}
+
+// What becomes of a subproblem with this relaxed route: steps 4 to 6, if `better` says that there is one and it improves on the best.
+fn judge(
+    p: &[u8],
+    places: &[u8; 2048],
+    counts: Counts,
+    query: Query,
+    fixings: Fixings,
+    route: Route,
+    better: bool,
+) -> Judged
+    requires { ⌜ Ready (now p) (now places) counts query × (better ≡ true → Known (now p) route) ⌝ }
+    ensures { λ v. ⌜ v ≡ judgedIn (now (p .entry)) query fixings route better ⌝ }
+{
+    if !better {
+        return Judged::Drop;
+    }
+    let setting = modes::lowest_setting(p, route);
+    match setting {
+        Lowest::Works(lowest) => Judged::Best,
+        Lowest::Nothing => {
+            let place = pick::picked(p, places, counts, query.pick, fixings, route);
+            match place {
+                Place::At(k) => Judged::Branch(k),
+                Place::Unnamed => Judged::Drop,
+            }
+        }
+    }
+}
+
+// A child of a subproblem: the belt at place k is required, or else forbidden, too.
+fn child(fixings: Fixings, k: usize, required: bool) -> Fixings
+    requires { ⌜ k < 64 ⌝ }
+    ensures { λ v. ⌜ v ≡ childAt fixings (At k) required ⌝ }
+{
+    if required {
+        return Fixings {
+            required: masks::with(fixings.required, Place::At(k)),
+            forbidden: fixings.forbidden,
+        };
+    }
+    Fixings {
+        required: fixings.required,
+        forbidden: masks::with(fixings.forbidden, Place::At(k)),
+    }
+}
+
 impl Search {
-    // The search with two more waiting; the newer is taken first.
-    fn with_both(mut self, older: Fixings, newer: Fixings) -> Search
-        requires { ⌜ self .count ≤ 47 ⌝ }
-        ensures { λ v. ⌜ v ≡ withBoth older newer self ⌝ }
-    {
-        let at = self.count;
-        self.waiting[at] = older;
-        self.waiting[at + 1] = newer;
-        self.count = at + 2;
-        self
-    }
-
-    // Steps 5 and 6: both children wait, in the query's order; nothing changes where no named belt is unfixed.
-    fn branch(self, fixings: Fixings, place: Place, order: u64) -> Search
-        requires { ⌜ Room self place ⌝ }
-        ensures { λ v. ⌜ v ≡ branchedTo fixings place order self ⌝ }
-    {
-        match place {
-            Place::At(k) => {
-                let requiring = Fixings {
-                    required: masks::with(fixings.required, place),
-                    forbidden: fixings.forbidden,
-                };
-                let forbidding = Fixings {
-                    required: fixings.required,
-                    forbidden: masks::with(fixings.forbidden, place),
-                };
-                if order == 0 {
-                    return self.with_both(requiring, forbidding);
-                }
-                self.with_both(forbidding, requiring)
-            }
-            Place::Unnamed => self,
-        }
-    }
-
-    // Steps 4 to 6: a permitted relaxed route becomes the best; else the subproblem is branched.
-    fn test(
-        mut self,
-        p: &[u8],
-        places: &[u8; 2048],
-        counts: Counts,
-        query: Query,
-        fixings: Fixings,
-        route: Route,
-    ) -> Search
-        requires { ⌜ Ready (now p) (now places) counts query × Taken (now p) self fixings × Known (now p) route × (route ≡ packed (idsOf route)) ⌝ }
-        ensures { λ v. ⌜ Stands (now (p .entry)) v (testedIn (now (p .entry)) query fixings route self) ⌝ }
-    {
-        let setting = modes::lowest_setting(p, route);
-        match setting {
-            Lowest::Works(lowest) => {
-                self.best = route;
-                self.found = true;
-                self
-            }
-            Lowest::Nothing => {
-                let place = pick::picked(p, places, counts, query.pick, fixings, route);
-                self.branch(fixings, place, query.order)
-            }
-        }
-    }
-
-    // Steps 3 to 6, on the subproblem that was taken.
-    fn open(
-        self,
-        p: &[u8],
-        places: &[u8; 2048],
-        counts: Counts,
-        query: Query,
-        fixings: Fixings,
-    ) -> Search
-        requires { ⌜ Ready (now p) (now places) counts query × Taken (now p) self fixings ⌝ }
-        ensures { λ v. ⌜ Stands (now (p .entry)) v (openedIn (now (p .entry)) query fixings self) ⌝ }
-    {
-        let relaxed = relax::relaxed_route(p, places, query.trip, fixings);
-        if !relaxed.found {
-            return self;
-        }
-        let route = relaxed.route;
-        if self.found {
-            if !path::before(p, route, self.best) {
-                return self;
-            }
-        }
-        self.test(p, places, counts, query, fixings, route)
-    }
-
-    // One step. `places` and `counts` are those of the plan (plan::named::named_places, pick::rule_counts).
+    // One step. `places` and `counts` are those of the plan (plan::named::named_places, pick::rule_counts). The search is changed here alone:
+    // each function that it were handed on to would copy it.
     pub fn step(mut self, p: &[u8], places: &[u8; 2048], counts: Counts, query: Query) -> Stepped
         requires { ⌜ Ready (now p) (now places) counts query × Valid (now p) self × (self .opened ≤ query .budget) ⌝ }
         ensures { λ v. ⌜ (turnIn (now (p .entry)) v ≡ stepIn (now (p .entry)) query self) × Valid (now (p .entry)) (v .search) ⌝ }
     {
-        if self.count == 0 {
-            if self.found {
-                return Stepped {
-                    search: self,
-                    ending: Ending::Found,
-                };
-            }
+        if self.count == 0 || self.opened == query.budget {
             return Stepped {
                 search: self,
-                ending: Ending::Nothing,
-            };
-        }
-        if self.opened == query.budget {
-            return Stepped {
-                search: self,
-                ending: Ending::Spent,
+                ending: ended(self.count, self.found),
             };
         }
         let top = self.count - 1;
         let fixings = self.waiting[top];
-        let none = Fixings {
-            required: 0,
-            forbidden: 0,
-        };
+        let none = free();
         self.waiting[top] = none;
         self.count = top;
         self.opened += 1;
-        let next = self.open(p, places, counts, query, fixings);
+        let relaxed = relax::relaxed_route(p, places, query.trip, fixings);
+        let better = improves(p, relaxed, self.found, self.best);
+        let judged = judge(p, places, counts, query, fixings, relaxed.route, better);
+        match judged {
+            Judged::Drop => {}
+            Judged::Best => {
+                let route = relaxed.route;
+                self.best = route;
+                self.found = true;
+            }
+            Judged::Branch(k) => {
+                let older = child(fixings, k, query.order == 0);
+                let newer = child(fixings, k, query.order != 0);
+                self.waiting[top] = older;
+                self.waiting[top + 1] = newer;
+                self.count = top + 2;
+            }
+        }
         Stepped {
-            search: next,
+            search: self,
             ending: Ending::GoesOn,
         }
     }

@@ -14,36 +14,36 @@ use Rattle.route.proofs.path.are_belts.Statement.{statement}
 use Rattle.route.proofs.path.are_belts.Tie as tie
 
 abbrev Inv-loop : tie.InvT-loop
-Inv-loop p route belts k₀ k =
+Inv-loop p route k₀ k =
     (route .count ≤ length (route .belts)) × (all (λ (e : ℕ). mem e (namesOf (planOf p .belts))) (drop k (idsOf route)) ≡ all (λ (e : ℕ). mem e (namesOf (planOf p .belts))) (idsOf route))
 
 abbrev μ-loop : tie.MeasureT-loop
-μ-loop p route belts k₀ k = route .count - k
+μ-loop p route k₀ k = route .count - k
 
 loop-holds : tie.Need-loop-holds Inv-loop μ-loop
 loop-holds c =
-    let start = c .before .before in
-    let size = places (start .args .route) (start .good .1 .0 .1 .1 .1 .0 .1 .0 .1) in
+    let start = c .before in
+    let size = places (start .args .t2) (start .good .1 .0 .1 .1 .1 .0 .1 .0 .1) in
     (omega (arith, start .pre .1), refl)
 
 mul-belt : tie.Need-mul-belt Inv-loop μ-loop
 mul-belt c = search needs
 
-array-copy-out-belt : tie.Need-array-copy-out-belt Inv-loop μ-loop
-array-copy-out-belt c = search needs
+element-copy-out-belt : tie.Need-element-copy-out-belt Inv-loop μ-loop
+element-copy-out-belt c = search needs
 
 is-belt-requires : tie.Need-is-belt-requires Inv-loop μ-loop
 is-belt-requires c κs = search needs
 
 returns : tie.Need-returns Inv-loop μ-loop
 returns c =
-    let at = c .before .before .before .before .before in
-    let start = at .before .before .before in
-    let route = start .args .route in
+    let at = c .before .before .before .before in
+    let start = at .before .before in
+    let route = start .args .t2 in
     let k = at .loop .k in
     let known : ℕ → Bool = λ (e : ℕ). mem e (namesOf (planOf (start .args .p .now) .belts)) in
-    let this = sym (c .before .is-belt .ensures) ∙ not-true (c .before .is-belt .result) (c .if2 .taken) in
-    let step = ap (all known) (ids-next route (at .loop .inv .0) k (c .before .before .before .if1 .taken)) in
+    let this = sym (c .before .is-belt .ensures) ∙ not-true (c .before .is-belt .result) (c .if1 .taken) in
+    let step = ap (all known) (ids-next route (at .loop .inv .0) k (c .before .before .before .loop-test .taken)) in
     sym (sym (at .loop .inv .1) ∙ step ∙ ap (λ (t : Bool). t && all known (drop (k + 1) (idsOf route))) this)
 
 add-k : tie.Need-add-k Inv-loop μ-loop
@@ -54,21 +54,21 @@ loop-less c = search needs
 
 loop-again : tie.Need-loop-again Inv-loop μ-loop
 loop-again c =
-    let at = c .before .before .before .before .before in
-    let start = at .before .before .before in
-    let route = start .args .route in
+    let at = c .before .before .before .before in
+    let start = at .before .before in
+    let route = start .args .t2 in
     let k = at .loop .k in
     let known : ℕ → Bool = λ (e : ℕ). mem e (namesOf (planOf (start .args .p .now) .belts)) in
-    let this = sym (c .before .is-belt .ensures) ∙ not-false (c .before .is-belt .result) (c .if2 .left) in
-    let step = ap (all known) (ids-next route (at .loop .inv .0) k (c .before .before .before .if1 .taken)) in
+    let this = sym (c .before .is-belt .ensures) ∙ not-false (c .before .is-belt .result) (c .if1 .left) in
+    let step = ap (all known) (ids-next route (at .loop .inv .0) k (c .before .before .before .loop-test .taken)) in
     (at .loop .inv .0, sym (step ∙ ap (λ (t : Bool). t && all known (drop (k + 1) (idsOf route))) this) ∙ at .loop .inv .1)
 
 returns-2 : tie.Need-returns-2 Inv-loop μ-loop
 returns-2 c =
-    let at = c .before .before in
-    let start = at .before .before .before in
+    let at = c .before in
+    let start = at .before .before in
     let known : ℕ → Bool = λ (e : ℕ). mem e (namesOf (planOf (start .args .p .now) .belts)) in
-    sym (sym (at .loop .inv .1) ∙ ap (all known) (ids-end (start .args .route) (at .loop .inv .0) (at .loop .k) (c .if1 .left)))
+    sym (sym (at .loop .inv .1) ∙ ap (all known) (ids-end (start .args .t2) (at .loop .inv .0) (at .loop .k) (c .loop-test .left)))
 
 pub are-belts-spec : {M : Type 1} → statement M
 are-belts-spec =
@@ -78,7 +78,7 @@ are-belts-spec =
     μ-loop
     loop-holds
     mul-belt
-    array-copy-out-belt
+    element-copy-out-belt
     is-belt-requires
     returns
     add-k

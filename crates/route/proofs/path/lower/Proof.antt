@@ -49,61 +49,61 @@ first-ends a b fit k h = go (test (ltb k (b .count)))
     go (inr t) = (λ i. lowerIds (ids-end a (fit .0) k h i) (ids-end b (fit .1) k (ltb-false k (b .count) t) i)) ∙ sym t
 
 abbrev Inv-loop : tie.InvT-loop
-Inv-loop a b firsts others k₀ k = Fit a b × (k ≤ b .count) × (leftLower a b k ≡ lowerIds (idsOf a) (idsOf b))
+Inv-loop a b k₀ k = Fit a b × (k ≤ b .count) × (leftLower a b k ≡ lowerIds (idsOf a) (idsOf b))
 
 abbrev μ-loop : tie.MeasureT-loop
-μ-loop a b firsts others k₀ k = a .count - k
+μ-loop a b k₀ k = a .count - k
 
 loop-holds : tie.Need-loop-holds Inv-loop μ-loop
 loop-holds c =
-    let start = c .before .before in
-    let size-a = places (start .args .a) (start .good .0 .1 .1 .1 .0 .1 .0 .1) in
-    let size-b = places (start .args .b) (start .good .1 .0 .1 .1 .1 .0 .1 .0 .1) in
+    let start = c in
+    let size-a = places (start .args .t1) (start .good .0 .1 .1 .1 .0 .1 .0 .1) in
+    let size-b = places (start .args .t2) (start .good .1 .0 .1 .1 .1 .0 .1 .0 .1) in
     ((omega (arith, start .pre .0), omega (arith, start .pre .1)), omega arith, refl)
 
 returns : tie.Need-returns Inv-loop μ-loop
 returns c =
-    let turn = c .before .before in
-    let at = turn .before .before in
-    let start = at .before .before .before in
-    sym (first-on (start .args .a) (start .args .b) (at .loop .inv .0) (at .loop .k) (turn .if1 .taken) (omega (arith, c .if2 .taken)))
+    let turn = c .before in
+    let at = turn .before in
+    let start = at .before in
+    sym (first-on (start .args .t1) (start .args .t2) (at .loop .inv .0) (at .loop .k) (turn .loop-test .taken) (omega (arith, c .if1 .taken)))
     ∙ at .loop .inv .2
 
 mul-first : tie.Need-mul-first Inv-loop μ-loop
 mul-first c = search needs
 
-array-copy-out-first : tie.Need-array-copy-out-first Inv-loop μ-loop
-array-copy-out-first c = search needs
+element-copy-out-first : tie.Need-element-copy-out-first Inv-loop μ-loop
+element-copy-out-first c = search needs
 
 mul-other : tie.Need-mul-other Inv-loop μ-loop
 mul-other c = search needs
 
-array-copy-out-other : tie.Need-array-copy-out-other Inv-loop μ-loop
-array-copy-out-other c = search needs
+element-copy-out-other : tie.Need-element-copy-out-other Inv-loop μ-loop
+element-copy-out-other c = search needs
 
 -- the second route goes on, too
-inside : (c : tie.Else2 Inv-loop μ-loop) → c .before .before .before .before .loop .k < c .before .before .before .before .before .before .before .args .b .count
-inside c = omega (arith, c .before .before .before .before .loop .inv .1, c .if2 .left)
+inside : (c : tie.Else1 Inv-loop μ-loop) → c .before .before .loop .k < c .before .before .before .args .t2 .count
+inside c = omega (arith, c .before .before .loop .inv .1, c .if1 .left)
 
 -- so the belts at this place decide, or else the rest
-decided : (c : tie.Else2 Inv-loop μ-loop)
-    → let at = c .before .before .before .before in
-    let a = at .before .before .before .args .a in
-    let b = at .before .before .before .args .b in
+decided : (c : tie.Else1 Inv-loop μ-loop)
+    → let at = c .before .before in
+    let a = at .before .args .t1 in
+    let b = at .before .args .t2 in
     first (nameAt a (at .loop .k)) (nameAt b (at .loop .k)) (leftLower a b (at .loop .k + 1)) ≡ lowerIds (idsOf a) (idsOf b)
 decided c =
-    let at = c .before .before .before .before in
-    let start = at .before .before .before in
-    sym (both-on (start .args .a) (start .args .b) (at .loop .inv .0) (at .loop .k) (c .before .before .if1 .taken) (inside c)) ∙ at .loop .inv .2
+    let at = c .before .before in
+    let start = at .before in
+    sym (both-on (start .args .t1) (start .args .t2) (at .loop .inv .0) (at .loop .k) (c .before .loop-test .taken) (inside c)) ∙ at .loop .inv .2
 
 returns-2 : tie.Need-returns-2 Inv-loop μ-loop
 returns-2 c =
     let into = c .before .before .before .before .before .before .before in
-    let at = into .before .before .before .before in
-    let a = at .before .before .before .args .a in
-    let b = at .before .before .before .args .b in
+    let at = into .before .before in
+    let a = at .before .args .t1 in
+    let b = at .before .args .t2 in
     let k = at .loop .k in
-    sym (first-ne (nameAt a k) (nameAt b k) (leftLower a b (k + 1)) (c .before .before .if3 .taken)) ∙ decided into
+    sym (first-ne (nameAt a k) (nameAt b k) (leftLower a b (k + 1)) (c .before .before .if2 .taken)) ∙ decided into
 
 add-k : tie.Need-add-k Inv-loop μ-loop
 add-k c = search needs
@@ -114,17 +114,17 @@ loop-less c = search needs
 loop-again : tie.Need-loop-again Inv-loop μ-loop
 loop-again c =
     let into = c .before .before .before .before .before in
-    let at = into .before .before .before .before in
-    let a = at .before .before .before .args .a in
-    let b = at .before .before .before .args .b in
+    let at = into .before .before in
+    let a = at .before .args .t1 in
+    let b = at .before .args .t2 in
     let k = at .loop .k in
-    (at .loop .inv .0, omega (arith, inside into), sym (first-eq (nameAt a k) (nameAt b k) (leftLower a b (k + 1)) (c .if3 .left)) ∙ decided into)
+    (at .loop .inv .0, omega (arith, inside into), sym (first-eq (nameAt a k) (nameAt b k) (leftLower a b (k + 1)) (c .if2 .left)) ∙ decided into)
 
 returns-3 : tie.Need-returns-3 Inv-loop μ-loop
 returns-3 c =
-    let at = c .before .before .before in
-    let start = at .before .before .before in
-    sym (first-ends (start .args .a) (start .args .b) (at .loop .inv .0) (at .loop .k) (c .before .if1 .left)) ∙ at .loop .inv .2
+    let at = c .before in
+    let start = at .before in
+    sym (first-ends (start .args .t1) (start .args .t2) (at .loop .inv .0) (at .loop .k) (c .loop-test .left)) ∙ at .loop .inv .2
 
 pub lower-spec : {M : Type 1} → statement M
 lower-spec =
@@ -135,9 +135,9 @@ lower-spec =
     loop-holds
     returns
     mul-first
-    array-copy-out-first
+    element-copy-out-first
     mul-other
-    array-copy-out-other
+    element-copy-out-other
     returns-2
     add-k
     loop-less

@@ -19,29 +19,29 @@ use Rattle.route.proofs.relax.walk.Statement.{statement}
 use Rattle.route.proofs.relax.walk.Tie as tie
 
 abbrev Inv-loop : tie.InvT-loop
-Inv-loop p places fixings ways s t firsts belts₀ count₀ met₀ at₀ belts count seen at = Walked p fixings s t at count belts seen
+Inv-loop p places fixings s t ways belts₀ count₀ met₀ at₀ belts count seen at = Walked p fixings s t at count belts seen
 
 abbrev μ-loop : tie.MeasureT-loop
-μ-loop p places fixings ways s t firsts belts₀ count₀ met₀ at₀ belts count seen at = t - at
+μ-loop p places fixings s t ways belts₀ count₀ met₀ at₀ belts count seen at = t - at
 
 loop-holds : tie.Need-loop-holds Inv-loop μ-loop
-loop-holds c = let pre = c .before .before .pre in walked-start (pre .0) (pre .3) (pre .4) (pre .6) (pre .5)
+loop-holds c = let pre = c .before .pre in walked-start (pre .0) (pre .3) (pre .4) (pre .6) (pre .5)
 
 -- a turn of the loop: where the walk was asked for, and the belt that it goes by
 abbrev start : tie.In-loop Inv-loop μ-loop → tie.Start Inv-loop μ-loop
-start c = c .before .before .before .before
+start c = c .before .before .before
 
 abbrev plan : tie.In-loop Inv-loop μ-loop → List ℕ
 plan c = start c .args .p .now
 
 abbrev belt : tie.In-loop Inv-loop μ-loop → BeltId
-belt c = getD (start c .args .ways .firsts) (c .before .loop .at) (beltId 0)
+belt c = getD (start c .args .t4 .firsts) (c .before .loop .at) (beltId 0)
 
 step : (c : tie.In-loop Inv-loop μ-loop)
     → Step (plan c) (start c .args .fixings) (start c .args .s) (start c .args .t) (c .before .loop .at) (c .before .loop .count) (c .before .loop .belts) (c .before .loop .seen) (belt c)
 step c =
     let pre = start c .pre in
-    walked-next (pre .0) (c .before .loop .inv) (start c .args .ways .firsts) (pre .7) (c .loop-test .taken)
+    walked-next (pre .0) (c .before .loop .inv) (start c .args .t4 .firsts) (pre .7) (c .loop-test .taken)
 
 below : (c : tie.In-loop Inv-loop μ-loop) → c .before .loop .at < 257
 below c = let pre = start c .pre in omega (arith, step c .higher, step c .inside, pre .4, plan-sizes (pre .0) .1)
@@ -52,8 +52,8 @@ low c = belt-low (start c .pre .0) (belt c .0) (step c .belt) .2
 mul-belt : tie.Need-mul-belt Inv-loop μ-loop
 mul-belt c = omega (arith, below c)
 
-array-copy-out-belt : tie.Need-array-copy-out-belt Inv-loop μ-loop
-array-copy-out-belt c = below c
+element-copy-out-belt : tie.Need-element-copy-out-belt Inv-loop μ-loop
+element-copy-out-belt c = below c
 
 place-of-requires : tie.Need-place-of-requires Inv-loop μ-loop
 place-of-requires c κs = omega (arith, low (c .before .before), c .place-of-arg .given .0)
@@ -120,14 +120,14 @@ nothing-requires c κs = search needs
 returns : tie.Need-returns Inv-loop μ-loop
 returns c =
     let past = c .before .before .before in
-    let pre = past .before .before .before .before .pre in
+    let pre = past .before .before .before .pre in
     c .nothing .ensures
     ∙ sym (ap relaxedAs (walked-short (pre .0) (past .before .loop .inv) (pre .2) (past .loop-test .left) (c .before .if2 .taken)))
 
 returns-2 : tie.Need-returns-2 Inv-loop μ-loop
 returns-2 c =
     let past = c .before .before in
-    let pre = past .before .before .before .before .pre in
+    let pre = past .before .before .before .pre in
     walked-whole (pre .0) (past .before .loop .inv) (pre .6) (past .loop-test .left) (c .if2 .left)
 
 pub walk-spec : {M : Type 1} → statement M
@@ -138,7 +138,7 @@ walk-spec =
     μ-loop
     loop-holds
     mul-belt
-    array-copy-out-belt
+    element-copy-out-belt
     place-of-requires
     has-requires
     with-requires

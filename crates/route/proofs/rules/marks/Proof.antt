@@ -14,33 +14,33 @@ use Rattle.route.proofs.rules.marks.Statement.{statement}
 use Rattle.route.proofs.rules.marks.Tie as tie
 
 abbrev Inv-loop : tie.InvT-loop
-Inv-loop route belts on₀ k₀ on k = (length (route .belts) ≡ 255) × (k ≤ route .count) × (on ≡ marksOf (firstIds k (route .belts)))
+Inv-loop route on₀ k₀ on k = (length (route .belts) ≡ 255) × (k ≤ route .count) × (on ≡ marksOf (firstIds k (route .belts)))
 
 abbrev μ-loop : tie.MeasureT-loop
-μ-loop route belts on₀ k₀ on k = route .count - k
+μ-loop route on₀ k₀ on k = route .count - k
 
 -- that the array has 255 elements is told by holding it (`good`)
 loop-holds : tie.Need-loop-holds Inv-loop μ-loop
-loop-holds c = (places (c .before .args .route) (c .before .good .0 .1 .1 .1 .0 .1 .0 .1), omega arith, marks-none)
+loop-holds c = (places (c .args .t1) (c .good .0 .1 .1 .1 .0 .1 .0 .1), omega arith, marks-none)
 
 mul-belt : tie.Need-mul-belt Inv-loop μ-loop
 mul-belt c = search needs
 
-array-copy-out-belt : tie.Need-array-copy-out-belt Inv-loop μ-loop
-array-copy-out-belt c = search needs
+element-copy-out-belt : tie.Need-element-copy-out-belt Inv-loop μ-loop
+element-copy-out-belt c = search needs
 
 cast-on : tie.Need-cast-on Inv-loop μ-loop
 cast-on c = search needs
 
 -- the belt's index is below 2,048
-low : (c : tie.After-struct-known2 Inv-loop μ-loop)
-    → getD (c .before .before .before .before .before .before .args .route .belts) (c .before .before .before .before .loop .k) (beltId 0) .0 < 2048
+low : (c : tie.After-struct-known Inv-loop μ-loop)
+    → getD (c .before .before .before .before .args .t1 .belts) (c .before .before .before .loop .k) (beltId 0) .0 < 2048
 low c =
-    let start = c .before .before .before .before .before .before in
-    let route = start .args .route in
-    let loop = c .before .before .before .before .loop in
+    let start = c .before .before .before .before in
+    let route = start .args .t1 in
+    let loop = c .before .before .before .loop in
     let all : route .count ≤ length (route .belts) = omega (arith, start .pre .few, loop .inv .0) in
-    start .pre .low _ (ids-at route all (loop .k) (c .before .before .if1 .taken))
+    start .pre .low _ (ids-at route all (loop .k) (c .before .before .loop-test .taken))
 
 array-write-on : tie.Need-array-write-on Inv-loop μ-loop
 array-write-on c = low c
@@ -53,14 +53,14 @@ loop-less c = search needs
 
 loop-again : tie.Need-loop-again Inv-loop μ-loop
 loop-again c =
-    let start = c .before .before .before .before .before .before in
-    let belts = start .args .route .belts in
-    let loop = c .before .before .before .before .loop in
+    let start = c .before .before .before .before in
+    let belts = start .args .t1 .belts in
+    let loop = c .before .before .before .loop in
     let k = loop .k in
-    let fits : k < length belts = omega (arith, start .pre .few, loop .inv .0, c .before .before .if1 .taken) in
+    let fits : k < length belts = omega (arith, start .pre .few, loop .inv .0, c .before .before .loop-test .taken) in
     let e = getD belts k (beltId 0) .0 in (
       loop .inv .0,
-      omega (arith, c .before .before .if1 .taken),
+      omega (arith, c .before .before .loop-test .taken),
       ap (λ (l : List Bool). set l e true) (loop .inv .2)
           ∙ marks-more (firstIds k belts) e (low c)
           ∙ ap marksOf (sym (first-more k belts (beltId 0) fits)),
@@ -68,9 +68,9 @@ loop-again c =
 
 returns : tie.Need-returns Inv-loop μ-loop
 returns c =
-    let loop = c .before .before .loop in
-    let route = c .before .before .before .before .args .route in
-    let e : loop .k ≡ route .count = omega (arith, loop .inv .1, c .if1 .left) in
+    let loop = c .before .loop in
+    let route = c .before .before .args .t1 in
+    let e : loop .k ≡ route .count = omega (arith, loop .inv .1, c .loop-test .left) in
     loop .inv .2 ∙ ap (λ (k : ℕ). marksOf (firstIds k (route .belts))) e
 
 pub marks-spec : {M : Type 1} → statement M
@@ -81,7 +81,7 @@ marks-spec =
     μ-loop
     loop-holds
     mul-belt
-    array-copy-out-belt
+    element-copy-out-belt
     cast-on
     array-write-on
     add-k

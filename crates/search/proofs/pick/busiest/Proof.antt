@@ -1,85 +1,152 @@
--- `pick::busiest` meets its contract: the best so far with the busiest of the unfixed places from k on is the busiest of all.
--- Assumes nothing.
-use mathlib.Core.Path.{_≡_, sym, _∙_, ap, subst}
-use mathlib.Core.Logic.{⊎-elim}
-use Prim.Native.Nat.{ℕ, _-_, _+_, _<_}
-use mathlib.Core.List.{List}
+-- `pick::busiest` meets its contract: the best so far is the busiest of the unfixed places from k on. Assumes nothing.
+use mathlib.Core.Path.{_≡_, refl, sym, _∙_, ap, subst}
+use mathlib.Core.Bool.{Bool, true, false, not}
+use mathlib.Core.Option.{Option}
+use mathlib.Core.List.{List, _∷_}
+use Prim.Native.Nat.{ℕ, _-_, _+_, _≤_, _<_}
 use native.Mathlib.Omega.{arith}
 use borrow.Author.Needs.{needs}
-use Rattle.plan.specs.declared.named.Place.{Place}
+use lib.Bits.{bitOr}
+use Rattle.plan.specs.declared.named.Place.the-variants.{At}
 use Rattle.plan.specs.Lists.{keep, upto}
 use Rattle.plan.proofs.Counts.{keep-first, keep-rest, keep-done}
-use Rattle.search.specs.Branching.{highest}
-use Rattle.search.specs.Inner.{unfixedAt, unfixedPlaces, atPlace, Below, countAt}
-use Rattle.search.proofs.Picks.{combined, combined-first, combined-next, busier-below}
+use Rattle.route.specs.declared.relax.Fixings.{Fixings}
+use Rattle.route.specs.Values.{inMask}
+use Rattle.route.proofs.Bits.{or-set}
+use Rattle.search.specs.Branching.{higher, highest}
+use Rattle.search.specs.Inner.{unfixedPlaces, countAt}
+use Rattle.search.proofs.Picks.{Tops, tops-taken, tops-kept, tops-found, tops-none}
 use Rattle.search.proofs.pick.busiest.Statement.{statement}
 use Rattle.search.proofs.pick.busiest.Tie as tie
 
+-- the mask m does not have the place k
+abbrev outside : ℕ → ℕ → Bool
+outside m k = not (inMask m (At k))
+
+abbrev fixed : Fixings → ℕ
+fixed f = bitOr (f .required) (f .forbidden)
+
+-- the busiest of the places from k on, of n, that the mask m does not have
+abbrev top : List ℕ → ℕ → ℕ → ℕ → Option ℕ
+top xs m k n = highest (countAt xs) (keep (outside m) (upto k n))
+
+module _ (xs : List ℕ) (m k n : ℕ) (some : k ≡ 0 → ⊥) (l : k ≤ n) where
+  back : k - 1 + 1 ≡ k
+  back = omega (arith, some)
+
+  top-first : outside m (k - 1) ≡ true → top xs m (k - 1) n ≡ higher (countAt xs) (k - 1) (top xs m k n)
+  top-first h =
+      ap (highest (countAt xs)) (keep-first (outside m) (k - 1) n (omega (arith, some)) h ∙ ap (λ (j : ℕ). (k - 1) ∷ keep (outside m) (upto j n)) back)
+
+  top-rest : outside m (k - 1) ≡ false → top xs m (k - 1) n ≡ top xs m k n
+  top-rest h = ap (highest (countAt xs)) (keep-rest (outside m) (k - 1) n (omega (arith, some)) h ∙ ap (λ (j : ℕ). keep (outside m) (upto j n)) back)
+
 abbrev Inv-loop : tie.InvT-loop
-Inv-loop fixings counts rules best₀ k₀ best k =
-    Below best
-    × (combined (counts .rules) best (highest (countAt (counts .rules)) (keep (unfixedAt fixings) (upto k (counts .named))))
-    ≡ atPlace (highest (countAt (counts .rules)) (unfixedPlaces fixings (counts .named))))
+Inv-loop counts fixed found₀ best₀ most₀ k₀ found best most k =
+    (k ≤ counts .named) × Tops (counts .rules) (top (counts .rules) fixed k (counts .named)) found best most
 
 abbrev μ-loop : tie.MeasureT-loop
-μ-loop fixings counts rules best₀ k₀ best k = counts .named - k
+μ-loop counts fixed found₀ best₀ most₀ k₀ found best most k = k
 
 loop-holds : tie.Need-loop-holds Inv-loop μ-loop
 loop-holds c =
     let a = c .before .args in
-    (tt, combined-first (a .counts .rules) (highest (countAt (a .counts .rules)) (unfixedPlaces (a .fixings) (a .counts .named))))
+    let xs = a .t2 .rules in
+    let n = a .t2 .named in
+    let none = keep-done (outside (fixed (a .fixings))) n n (omega arith) in
+    (omega arith, subst (λ (ks : List ℕ). Tops xs (highest (countAt xs) ks) false 0 0) (sym none) (refl, refl))
+
+sub-k : tie.Need-sub-k Inv-loop μ-loop
+sub-k c = search needs
 
 -- the place of a turn is one of 48
-below : (c : tie.Then1 Inv-loop μ-loop) → c .before .before .loop .k < 48
-below c = omega (arith, c .if1 .taken, c .before .before .before .before .pre)
+below : (c : tie.In-loop Inv-loop μ-loop) → c .before .loop .k - 1 < 48
+below c = omega (arith, c .loop-test .taken, c .before .loop .inv .0, c .before .before .before .pre)
 
-is-unfixed-requires : tie.Need-is-unfixed-requires Inv-loop μ-loop
-is-unfixed-requires c κs = below c
+has-requires : tie.Need-has-requires Inv-loop μ-loop
+has-requires c κs = omega (arith, below c)
 
-busier-requires : tie.Need-busier-requires Inv-loop μ-loop
-busier-requires c κs = let turn = c .before .before in (turn .before .before .loop .inv .0, below turn)
+mul-rules : tie.Need-mul-rules Inv-loop μ-loop
+mul-rules c = omega (arith, below (c .before .before))
 
-add-k : tie.Need-add-k Inv-loop μ-loop
-add-k c = search needs
+element-copy-out-rules : tie.Need-element-copy-out-rules Inv-loop μ-loop
+element-copy-out-rules c = below (c .before .before)
+
+-- an unfixed place is looked at first
+first : (c : tie.After-rules Inv-loop μ-loop) → let at = c .before .before .before .before in let a = at .before .before .args in let k = at .loop .k in
+    top (a .t2 .rules) (fixed (a .fixings)) (k - 1) (a .t2 .named) ≡ higher (countAt (a .t2 .rules)) (k - 1) (top (a .t2 .rules) (fixed (a .fixings)) k (a .t2 .named))
+first c =
+    let has = c .before .before in
+    let turn = has .before in
+    let at = turn .before in
+    let a = at .before .before .args in
+    top-first (a .t2 .rules) (fixed (a .fixings)) (at .loop .k) (a .t2 .named) (turn .loop-test .taken) (at .loop .inv .0)
+    (sym (ap not (has .has .ensures)) ∙ c .before .if1 .taken)
 
 loop-less : tie.Need-loop-less Inv-loop μ-loop
 loop-less c = search needs
 
 loop-again : tie.Need-loop-again Inv-loop μ-loop
 loop-again c =
-    let turn = c .before .before in
-    let at = turn .before .before in
+    let at = c .before .before .before .before .before in
+    let loop = at .loop in
     let a = at .before .before .args in
-    let xs = a .counts .rules in
-    let k = at .loop .k in
-    let n = a .counts .named in
-    let free = sym (c .before .is-unfixed .ensures) in
-    let best = at .loop .best in
-    let left = highest (countAt xs) (keep (unfixedAt (a .fixings)) (upto (k + 1) n)) in
-    ⊎-elim
-    (λ w.
-    let first = keep-first (unfixedAt (a .fixings)) k n (turn .if1 .taken) (free ∙ w .0 .taken) in
-    let is = w .2 ∙ w .1 .ensures in (
-      subst Below (sym is) (busier-below xs best k (at .loop .inv .0) (below turn)),
-      ap (λ (q : Place). combined xs q left) is
-          ∙ sym (combined-next xs best k left)
-          ∙ sym (ap (λ (ks : List ℕ). combined xs best (highest (countAt xs) ks)) first)
-          ∙ at .loop .inv .1,
-    ))
-    (λ w.
-    let rest = keep-rest (unfixedAt (a .fixings)) k n (turn .if1 .taken) (free ∙ w .0 .left) in
-    let is = w .1 in (
-      subst Below (sym is) (at .loop .inv .0),
-      ap (λ (q : Place). combined xs q left) is ∙ sym (ap (λ (ks : List ℕ). combined xs best (highest (countAt xs) ks)) rest) ∙ at .loop .inv .1,
-    ))
-    (c .if2 .came)
+    let xs = a .t2 .rules in (
+      omega (arith, loop .inv .0),
+      subst (λ (o : Option ℕ). Tops xs o true (loop .k - 1) (countAt xs (loop .k - 1))) (sym (first (c .before)))
+          (tops-taken xs (top xs (fixed (a .fixings)) (loop .k) (a .t2 .named)) (loop .found) (loop .best) (loop .most) (loop .k - 1) (loop .inv .1) (c .if2 .taken)),
+    )
+
+loop-less-2 : tie.Need-loop-less-2 Inv-loop μ-loop
+loop-less-2 c = search needs
+
+loop-again-2 : tie.Need-loop-again-2 Inv-loop μ-loop
+loop-again-2 c =
+    let at = c .before .before .before .before .before in
+    let loop = at .loop in
+    let a = at .before .before .args in
+    let xs = a .t2 .rules in (
+      omega (arith, loop .inv .0),
+      subst (λ (o : Option ℕ). Tops xs o (loop .found) (loop .best) (loop .most)) (sym (first (c .before)))
+          (tops-kept xs (top xs (fixed (a .fixings)) (loop .k) (a .t2 .named)) (loop .found) (loop .best) (loop .most) (loop .k - 1) (loop .inv .1) (c .if2 .left)),
+    )
+
+loop-less-3 : tie.Need-loop-less-3 Inv-loop μ-loop
+loop-less-3 c = search needs
+
+loop-again-3 : tie.Need-loop-again-3 Inv-loop μ-loop
+loop-again-3 c =
+    let turn = c .before .before in
+    let at = turn .before in
+    let a = at .before .before .args in
+    let xs = a .t2 .rules in
+    let rest = top-rest xs (fixed (a .fixings)) (at .loop .k) (a .t2 .named) (turn .loop-test .taken) (at .loop .inv .0) (sym (ap not (c .before .has .ensures)) ∙ c .if1 .left) in
+    (omega (arith, at .loop .inv .0), subst (λ (o : Option ℕ). Tops xs o (at .loop .found) (at .loop .best) (at .loop .most)) (sym rest) (at .loop .inv .1))
+
+-- all places are gone through
+whole : (c : tie.After-loop Inv-loop μ-loop) → let a = c .before .before .before .args in
+    Tops (a .t2 .rules) (highest (countAt (a .t2 .rules)) (unfixedPlaces (a .fixings) (a .t2 .named))) (c .before .loop .found) (c .before .loop .best) (c .before .loop .most)
+whole c =
+    let loop = c .before .loop in
+    let a = c .before .before .before .args in
+    let f = a .fixings in
+    let all : top (a .t2 .rules) (fixed f) (loop .k) (a .t2 .named) ≡ highest (countAt (a .t2 .rules)) (unfixedPlaces f (a .t2 .named)) =
+    λ i. highest (countAt (a .t2 .rules)) (keep (λ (j : ℕ). not (or-set (f .required) (f .forbidden) j i)) (upto (c .loop-test .left i) (a .t2 .named))) in
+    subst (λ (o : Option ℕ). Tops (a .t2 .rules) o (loop .found) (loop .best) (loop .most)) all (loop .inv .1)
 
 returns : tie.Need-returns Inv-loop μ-loop
 returns c =
     let loop = c .before .before .loop in
     let a = c .before .before .before .before .args in
-    let none = keep-done (unfixedAt (a .fixings)) (loop .k) (a .counts .named) (c .if1 .left) in
-    sym (ap (λ (ks : List ℕ). combined (a .counts .rules) (loop .best) (highest (countAt (a .counts .rules)) ks)) none) ∙ loop .inv .1
+    tops-found (a .t2 .rules) (highest (countAt (a .t2 .rules)) (unfixedPlaces (a .fixings) (a .t2 .named))) (loop .found) (loop .best) (loop .most)
+    (whole (c .before)) (c .if3 .taken)
+
+returns-2 : tie.Need-returns-2 Inv-loop μ-loop
+returns-2 c =
+    let loop = c .before .before .loop in
+    let a = c .before .before .before .before .args in
+    tops-none (a .t2 .rules) (highest (countAt (a .t2 .rules)) (unfixedPlaces (a .fixings) (a .t2 .named))) (loop .found) (loop .best) (loop .most)
+    (whole (c .before)) (c .if3 .left)
 
 pub busiest-spec : {M : Type 1} → statement M
 busiest-spec =
@@ -88,9 +155,15 @@ busiest-spec =
     Inv-loop
     μ-loop
     loop-holds
-    is-unfixed-requires
-    busier-requires
-    add-k
+    sub-k
+    has-requires
+    mul-rules
+    element-copy-out-rules
     loop-less
     loop-again
-    returns)
+    loop-less-2
+    loop-again-2
+    loop-less-3
+    loop-again-3
+    returns
+    returns-2)

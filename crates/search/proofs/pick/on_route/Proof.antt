@@ -12,34 +12,34 @@ use Rattle.search.proofs.pick.on_route.Statement.{statement}
 use Rattle.search.proofs.pick.on_route.Tie as tie
 
 abbrev Inv-loop : tie.InvT-loop
-Inv-loop places route belts mask₀ k₀ mask k =
+Inv-loop places route mask₀ k₀ mask k =
     (route .count ≤ length (route .belts)) × (gatheredIn places mask (drop k (idsOf route)) ≡ gatheredIn places 0 (idsOf route))
 
 abbrev μ-loop : tie.MeasureT-loop
-μ-loop places route belts mask₀ k₀ mask k = route .count - k
+μ-loop places route mask₀ k₀ mask k = route .count - k
 
 -- that the array has 255 elements is told by holding it (`good`)
 loop-holds : tie.Need-loop-holds Inv-loop μ-loop
 loop-holds c =
-    let start = c .before in
-    let size = places (start .args .route) (start .good .1 .0 .1 .1 .1 .0 .1 .0 .1) in
+    let start = c in
+    let size = places (start .args .t2) (start .good .1 .0 .1 .1 .1 .0 .1 .0 .1) in
     (omega (arith, start .pre .few), refl)
 
 mul-belt : tie.Need-mul-belt Inv-loop μ-loop
-mul-belt c = omega (arith, c .if1 .taken, c .before .before .before .before .pre .few)
+mul-belt c = omega (arith, c .loop-test .taken, c .before .before .pre .few)
 
-array-copy-out-belt : tie.Need-array-copy-out-belt Inv-loop μ-loop
-array-copy-out-belt c = omega (arith, c .if1 .taken, c .before .before .before .before .pre .few)
+element-copy-out-belt : tie.Need-element-copy-out-belt Inv-loop μ-loop
+element-copy-out-belt c = omega (arith, c .loop-test .taken, c .before .before .pre .few)
 
 -- the belt of a turn can be looked up
-low : (c : tie.Then1 Inv-loop μ-loop) →
-    let a = c .before .before .before .before .args in
-    let e = getD (a .route .belts) (c .before .before .loop .k) (beltId 0) .0 in
+low : (c : tie.In-loop Inv-loop μ-loop) →
+    let a = c .before .before .args in
+    let e = getD (a .t2 .belts) (c .before .loop .k) (beltId 0) .0 in
     (e < 2048) × LowPlace (placeIn (a .places .now) e)
 low c =
-    let at = c .before .before in
-    let start = at .before .before in
-    start .pre .low _ (ids-at (start .args .route) (at .loop .inv .0) (at .loop .k) (c .if1 .taken))
+    let at = c .before in
+    let start = at .before in
+    start .pre .low _ (ids-at (start .args .t2) (at .loop .inv .0) (at .loop .k) (c .loop-test .taken))
 
 place-of-requires : tie.Need-place-of-requires Inv-loop μ-loop
 place-of-requires c κs = omega (arith, c .place-of-arg .given .0, low (c .before .before) .0)
@@ -56,19 +56,19 @@ loop-less c = search needs
 loop-again : tie.Need-loop-again Inv-loop μ-loop
 loop-again c =
     let turn = c .before .before .before .before in
-    let at = turn .before .before in
-    let a = at .before .before .args in
-    let next = ap (gatheredIn (a .places .now) (at .loop .mask)) (ids-next (a .route) (at .loop .inv .0) (at .loop .k) (turn .if1 .taken)) in
+    let at = turn .before in
+    let a = at .before .args in
+    let next = ap (gatheredIn (a .places .now) (at .loop .mask)) (ids-next (a .t2) (at .loop .inv .0) (at .loop .k) (turn .loop-test .taken)) in
     let mask = c .with .ensures ∙ ap (withPlace (at .loop .mask)) (c .before .place-of .ensures) in (
       at .loop .inv .0,
-      ap (λ (m : ℕ). gatheredIn (a .places .now) m (drop (at .loop .k + 1) (idsOf (a .route)))) mask ∙ sym next ∙ at .loop .inv .1,
+      ap (λ (m : ℕ). gatheredIn (a .places .now) m (drop (at .loop .k + 1) (idsOf (a .t2)))) mask ∙ sym next ∙ at .loop .inv .1,
     )
 
 returns : tie.Need-returns Inv-loop μ-loop
 returns c =
-    let at = c .before .before in
-    let a = at .before .before .args in
-    sym (ap (gatheredIn (a .places .now) (at .loop .mask)) (ids-end (a .route) (at .loop .inv .0) (at .loop .k) (c .if1 .left))) ∙ at .loop .inv .1
+    let at = c .before in
+    let a = at .before .args in
+    sym (ap (gatheredIn (a .places .now) (at .loop .mask)) (ids-end (a .t2) (at .loop .inv .0) (at .loop .k) (c .loop-test .left))) ∙ at .loop .inv .1
 
 pub on-route-spec : {M : Type 1} → statement M
 on-route-spec =
@@ -78,7 +78,7 @@ on-route-spec =
     μ-loop
     loop-holds
     mul-belt
-    array-copy-out-belt
+    element-copy-out-belt
     place-of-requires
     with-requires
     add-k

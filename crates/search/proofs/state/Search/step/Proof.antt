@@ -1,86 +1,265 @@
 -- `Search::step` meets its contract: the six steps, on what the Search stands for (Holding, Opening). Assumes nothing.
-use Prim.Native.Nat.{_≤_}
+use mathlib.Core.Path.{_≡_, sym, _∙_, ap, subst}
+use mathlib.Core.Logic.{⊎-elim}
+use mathlib.Core.Bool.{true}
+use Prim.Native.Nat.{_+_, _-_, _≤_, _<_}
+use lib.ListN.{set, length-set}
 use native.Mathlib.Omega.{arith}
 use borrow.Author.Needs.{needs}
-use Rattle.search.specs.Inner.{Taken}
-use Rattle.search.proofs.Holding.{places, newestOf, popped, count-few, popped-taken}
-use Rattle.search.proofs.Opening.{step-found, step-nothing, step-spent, step-goes}
+use borrow.Author.Tests.{eqb-true, eqb-false}
+use Rattle.plan.specs.Plan.{planOf}
+use Rattle.plan.proofs.Lists.{both}
+use Rattle.route.specs.declared.path.Route.{Route}
+use Rattle.route.specs.Subproblems.{relaxed}
+use Rattle.route.specs.Values.{Known, subproblemIn}
+use Rattle.search.specs.declared.state.Search.{Search}
+use Rattle.search.specs.declared.state.Ending.{Ending}
+use Rattle.search.specs.declared.state.Ending.the-variants.{GoesOn}
+use Rattle.search.specs.declared.state.Judged.{Judged}
+use Rattle.search.specs.declared.state.Judged.the-variants.{Best}
+use Rattle.search.specs.Search.{considered}
+use Rattle.search.specs.Answers.{problemIn}
+use Rattle.search.specs.Values.{noFixings, stateIn, turnIn, Valid, stepIn}
+use Rattle.search.specs.Inner.{judgedIn}
+use Rattle.search.proofs.Holding.{places, settledTo, Room, Taken, Settles, newestOf, popped, count-few, popped-taken}
+use Rattle.search.proofs.Opening.{answered, judged-settles, step-empty, step-spent, step-goes}
 use Rattle.search.proofs.state.Search.step.Statement.{statement}
 use Rattle.search.proofs.state.Search.step.Tie as tie
+
+ended-requires : tie.Need-ended-requires
+ended-requires c κs = search needs
 
 returns : tie.Need-returns
 returns c =
     let start = c .before .before .before in
+    let b = start .args .p .now in
     let q = start .args .query in
-    (step-found (start .args .p .now) q (q .budget) (start .args .t1) (c .before .if1 .taken) (c .if2 .taken), start .pre .1)
-
-returns-2 : tie.Need-returns-2
-returns-2 c =
-    let start = c .before .before .before in
-    let q = start .args .query in
-    (step-nothing (start .args .p .now) q (q .budget) (start .args .t1) (c .before .if1 .taken) (c .if2 .left), start .pre .1)
-
-returns-3 : tie.Need-returns-3
-returns-3 c =
-    let start = c .before .before .before .before in
-    let q = start .args .query in
-    (step-spent (start .args .p .now) q (q .budget) (start .args .t1) (c .before .before .if1 .left) (c .if3 .taken), start .pre .1)
+    let v = start .args .t1 in (
+      ap (λ (e : Ending). record { state = stateIn b v; ending = e }) (c .ended .ensures)
+          ∙ ⊎-elim
+          (λ w. step-empty b q (q .budget) v (w .taken))
+          (λ w. step-spent b q (q .budget) v (w .0 .left) (eqb-true (v .opened) (q .budget) (w .2 .taken)))
+          (c .before .if1 .came),
+      start .pre .1,
+    )
 
 sub-top : tie.Need-sub-top
 sub-top c = search needs
 
+-- one waits, and the budget is not spent
+abbrev start : tie.Else2 → tie.Start
+start c = c .before .before .before .before
+
+abbrev now : tie.Else2 → Search
+now c = start c .args .t1
+
 -- the newest is one of 49
-below : (c : tie.Start) → c .args .t1 .count ≤ 49
-below c = count-few (c .pre .0 .accepted) (c .pre .1)
+below : (c : tie.Else2) → now c .count - 1 < 49
+below c = omega (arith, count-few (start c .pre .0 .accepted) (start c .pre .1))
 
 mul-fixings : tie.Need-mul-fixings
-mul-fixings c = record { fits = omega (arith, below (c .before .before .before .before)) }
+mul-fixings c = record { fits = omega (arith, below c) }
 
 element-copy-out-fixings : tie.Need-element-copy-out-fixings
-element-copy-out-fixings c = omega (arith, below (c .before .before .before .before))
+element-copy-out-fixings c = below c
+
+free-requires : tie.Need-free-requires
+free-requires c κs = search needs
 
 mul-none : tie.Need-mul-none
-mul-none c = record { fits = omega (arith, below (c .before .before .before .before .before)) }
+mul-none c = record { fits = omega (arith, below (c .before .before)) }
 
 element-set-from-none : tie.Need-element-set-from-none
-element-set-from-none c = omega (arith, below (c .before .before .before .before .before))
+element-set-from-none c = below (c .before .before)
+
+unspent : (c : tie.Else2) → now c .opened ≡ start c .args .query .budget → ⊥
+unspent c = eqb-false (now c .opened) (start c .args .query .budget) (c .if2 .left)
 
 add-self : tie.Need-add-self
-add-self c = search needs
+add-self c =
+    let goes = c .before .before in
+    let up = start goes .pre .2 in
+    record { fits = omega (arith, unspent goes, goes .before .struct-known .given) }
 
 -- the newest is taken
-taken : (c : tie.Else3) → let start = c .before .before .before .before in Taken (start .args .p .now) (popped (start .args .t1)) (newestOf (start .args .t1))
+taken : (c : tie.Else2) → Taken (start c .args .p .now) (popped (now c)) (newestOf (now c))
 taken c =
-    let start = c .before .before .before .before in
-    popped-taken (start .pre .0 .accepted) (start .args .t1) (places (start .args .t1) (start .good .0 .1 .1 .0 .1 .0 .1)) (start .pre .1) (c .before .before .if1 .left)
+    popped-taken (start c .pre .0 .accepted) (now c) (places (now c) (start c .good .0 .1 .1 .0 .1 .0 .1)) (start c .pre .1) (c .before .before .if1 .left)
 
-open-requires : tie.Need-open-requires
-open-requires c κs =
-    let pre = c .before .before .before .before .before .pre in
-    (pre .0, taken (c .before))
+relaxed-route-requires : tie.Need-relaxed-route-requires
+relaxed-route-requires c κs =
+    let goes = c .before .before in
+    let ready = start goes .pre .0 in
+    (ready .accepted, ready .placed, ready .ends, taken goes .required)
+
+-- a relaxed route that is there is of belts of the plan
+known : (c : tie.After-relaxed-route) → c .relaxed-route .result .found ≡ true
+    → Known (start (c .before .before .before) .args .p .now) (c .relaxed-route .result .route)
+known c h =
+    let from = c .before .before .before in
+    let ready = start from .pre .0 in
+    let trip = start from .args .query .trip in
+    answered (ready .accepted) (λ i. from .before .before .before .shared-slice-known .given i .fits) (trip .s) (trip .t) (ready .ends)
+    (subproblemIn (start from .args .p .now) (newestOf (now from))) (c .relaxed-route .result) (c .relaxed-route .ensures) h .0
+
+improves-requires : tie.Need-improves-requires
+improves-requires c κs =
+    let pre = start (c .before .before .before .before) .pre in
+    (pre .0 .accepted, known (c .before), pre .1 .known)
+
+judge-requires : tie.Need-judge-requires
+judge-requires c κs =
+    let asked = c .before .before in
+    (start (asked .before .before .before) .pre .0, λ h. known asked (both _ _ (sym (c .improves .ensures) ∙ h) .0))
+
+enum-told : tie.Need-enum-told
+enum-told c = search needs
+
+enum-told-2 : tie.Need-enum-told-2
+enum-told-2 c = search needs
+
+enum-known-judged : tie.Need-enum-known-judged
+enum-known-judged c = search needs
+
+-- what is to be done with it
+abbrev goes : tie.After-judge → tie.Else2
+goes c = c .before .before .before .before .before .before
+
+abbrev route : tie.After-judge → Route
+route c = c .before .before .before .relaxed-route .result .route
+
+-- the Search once that is done
+abbrev settled : tie.After-judge → Judged → Search
+settled c j = settledTo (newestOf (now (goes c))) (start (goes c) .args .query .order) (route c) (popped (now (goes c))) j
+
+settles : (c : tie.After-judge) → let args = start (goes c) .args in let one = newestOf (now (goes c)) in let b = args .p .now in
+    Settles b (popped (now (goes c))) one (args .query) (route c)
+    (considered (problemIn b (args .query)) (subproblemIn b one) (stateIn b (popped (now (goes c))))
+    (relaxed (planOf b) (args .query .trip .s) (args .query .trip .t) (subproblemIn b one)))
+    (c .judge .result)
+settles c =
+    let from = goes c in
+    let args = start from .args in
+    let ready = start from .pre .0 in
+    let one = newestOf (now from) in
+    let asked = c .before .before .before .relaxed-route in
+    let size = length-set (now from .waiting) (now from .count - 1) noFixings ∙ places (now from) (start from .good .0 .1 .1 .0 .1 .0 .1) in
+    let state = considered (problemIn (args .p .now) (args .query)) (subproblemIn (args .p .now) one) (stateIn (args .p .now) (popped (now from)))
+    (relaxed (planOf (args .p .now)) (args .query .trip .s) (args .query .trip .t) (subproblemIn (args .p .now) one)) in
+    let is = c .judge .ensures ∙ ap (judgedIn (args .p .now) (args .query) one (route c)) (c .before .improves .ensures) in
+    subst (Settles (args .p .now) (popped (now from)) one (args .query) (route c) state) (sym is)
+    (judged-settles (ready .accepted) (λ i. from .before .before .before .shared-slice-known .given i .fits) (popped (now from)) size one (taken from)
+    (args .query) (ready .ends) (asked .result) (asked .ensures))
+
+done : (c : tie.After-judge) (w : Search) → w ≡ settled c (c .judge .result)
+    → let args = start (goes c) .args in
+    (turnIn (args .p .now) (record { search = w; ending = GoesOn }) ≡ stepIn (args .p .now) (args .query) (now (goes c))) × Valid (args .p .now) w
+done c w e =
+    let from = goes c in
+    let b = start from .args .p .now in
+    let q = start from .args .query in
+    let all = settles c in (
+      step-goes b q (q .budget) (now from) (from .before .before .if1 .left) (unspent from) w (ap (stateIn b) e ∙ all .state),
+      subst (Valid b) (sym e) (all .valid),
+    )
+
+-- there is room for both children
+room : (c : tie.After-judged) → (now (goes (c .before .before)) .count - 1 ≤ 47) × (c .judged .given .0 .0 < 64)
+room c = subst (Room (popped (now (goes (c .before .before))))) (c .judged .given .1) (settles (c .before .before) .room)
+
+child-requires : tie.Need-child-requires
+child-requires c κs = room (c .before .before) .1
+
+child-requires-2 : tie.Need-child-requires-2
+child-requires-2 c κs = room (c .before .before .before .before) .1
+
+abbrev branches : tie.After-child2 → tie.After-judged
+branches c = c .before .before .before .before .before
+
+mul-older : tie.Need-mul-older
+mul-older c = record { fits = omega (arith, room (branches c) .0) }
+
+element-set-from-older : tie.Need-element-set-from-older
+element-set-from-older c = omega (arith, room (branches c) .0)
+
+add-newer : tie.Need-add-newer
+add-newer c = record { fits = omega (arith, room (branches c) .0) }
+
+mul-newer : tie.Need-mul-newer
+mul-newer c = record { fits = omega (arith, room (branches c) .0) }
+
+element-set-from-newer : tie.Need-element-set-from-newer
+element-set-from-newer c = omega (arith, room (branches c) .0)
+
+add-self-2 : tie.Need-add-self-2
+add-self-2 c = record { fits = omega (arith, room (branches c) .0) }
+
+-- the newest is taken off
+popped-is : (c : tie.After-free) → let v = now (c .before .before) in
+    record { waiting = set (v .waiting) (v .count - 1) (c .free .result); count = v .count - 1; opened = v .opened + 1; best = v .best; found = v .found } ≡ popped v
+popped-is c =
+    let v = now (c .before .before) in
+    λ i. record { waiting = set (v .waiting) (v .count - 1) (c .free .ensures i); count = v .count - 1; opened = v .opened + 1; best = v .best; found = v .found }
+
+returns-2 : tie.Need-returns-2
+returns-2 c =
+    let judged = c .before .before in
+    done judged _ (popped-is (judged .before .before .before .before) ∙ sym (ap (settled judged) (c .enum-told .given .1)))
+
+returns-3 : tie.Need-returns-3
+returns-3 c =
+    let told = c .before in
+    let judged = told .before .before in
+    let hold : Search → Search = λ v. settledTo (newestOf (now (goes judged))) (start (goes judged) .args .query .order) (route judged) v Best in
+    done judged _ (ap hold (popped-is (judged .before .before .before .before)) ∙ sym (ap (settled judged) (told .enum-told2 .given .1)))
 
 returns-4 : tie.Need-returns-4
 returns-4 c =
-    let goes = c .before .before in
-    let start = goes .before .before .before .before in
-    let q = start .args .query in
-    let opened = c .«open» .ensures in (
-      step-goes (start .args .p .now) q (q .budget) (start .args .t1) (goes .before .before .if1 .left) (goes .if3 .left) (c .«open» .result) (opened .0),
-      opened .1,
-    )
+    let judged = branches c .before .before in
+    let from = goes judged in
+    let v = now from in
+    let f = newestOf v in
+    let o = start from .args .query .order in
+    let older = c .before .before .child .ensures in
+    let newer = c .child2 .ensures in
+    let free = judged .before .before .before .before .free .ensures in
+    done judged _
+    ((λ i. record {
+      waiting = set (set (set (v .waiting) (v .count - 1) (free i)) (v .count - 1) (older i)) (v .count - 1 + 1) (newer i);
+      count = v .count - 1 + 2;
+      opened = v .opened + 1;
+      best = v .best;
+      found = v .found;
+    })
+    ∙ sym (ap (settled judged) (branches c .judged .given .1)))
 
 pub step-spec : {M : Type 1} → statement M
 step-spec =
     tie.close
     (tie.spec
+    ended-requires
     returns
-    returns-2
-    returns-3
     sub-top
     mul-fixings
     element-copy-out-fixings
+    free-requires
     mul-none
     element-set-from-none
     add-self
-    open-requires
+    relaxed-route-requires
+    improves-requires
+    judge-requires
+    enum-told
+    enum-told-2
+    enum-known-judged
+    child-requires
+    child-requires-2
+    mul-older
+    element-set-from-older
+    add-newer
+    mul-newer
+    element-set-from-newer
+    add-self-2
+    returns-2
+    returns-3
     returns-4)

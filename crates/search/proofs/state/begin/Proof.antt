@@ -1,0 +1,17 @@
+-- `state::begin` meets its contract: every place of the array fixes nothing. Assumes nothing.
+use mathlib.Core.Bool.{false}
+use mathlib.Core.List.{[]}
+use borrow.Author.Needs.{needs}
+use lib.ListN.{replicate}
+use Rattle.route.specs.Values.{packed}
+use Rattle.search.proofs.state.begin.Statement.{statement}
+use Rattle.search.proofs.state.begin.Tie as tie
+
+free-requires : tie.Need-free-requires
+free-requires c κs = search needs
+
+returns : tie.Need-returns
+returns c = λ i. record { waiting = replicate 49 (c .free .ensures i); count = 1; opened = 0; best = packed []; found = false }
+
+pub begin-spec : {M : Type 1} → statement M
+begin-spec = tie.close (tie.spec free-requires returns)
