@@ -1,4 +1,4 @@
--- Laws, each file after those that it rests on. The layers above go by Reading, Naming and Places; the claims are proved in Claims.
+-- Laws, each file after those that it rests on. The layers above go by Reading, Naming, Places and Arcs; the claims are proved in Claims.
 pub mod Lists
 pub mod Counts
 pub mod Rising
@@ -16,3 +16,4 @@ pub mod Accepted
 pub mod Limits
 pub mod Claims
 pub mod Reading
+pub mod Arcs

@@ -1,5 +1,6 @@
 -- The list and the places of the named belts: the arrays that the code makes, and what they say.
 --
+--   drop-replicate    what is left of a fresh array is fresh
 --   length-listed, listed-at
 --                     the array has 48 places, and the first of them hold the named belts
 --   ids-sets          belts stored from the front of a fresh array stand there, and the rest of it is fresh
@@ -31,7 +32,7 @@ use Rattle.plan.proofs.Rising.{Rises, none, more}
 
 -- ---- the list
 
-drop-replicate : {A : Type 0} (k n : ℕ) (a : A) → drop k (replicate n a) ≡ replicate (n - k) a
+pub drop-replicate : {A : Type 0} (k n : ℕ) (a : A) → drop k (replicate n a) ≡ replicate (n - k) a
 drop-replicate zero n a = let e : n ≡ n - 0 = omega arith in ap (λ (m : ℕ). replicate m a) e
 drop-replicate (suc k) zero a = let e : 0 ≡ 0 - suc k = omega arith in ap (λ (m : ℕ). replicate m a) e
 drop-replicate (suc k) (suc n) a =

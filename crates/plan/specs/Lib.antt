@@ -6,5 +6,6 @@ pub mod Refusals
 pub mod Limits
 pub mod Claims
 pub mod Reading
+pub mod Adjacency
 pub mod Inner
 pub mod Examples

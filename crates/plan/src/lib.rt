@@ -9,6 +9,8 @@
 //   notes    line 7, the marks of the named belts
 //   read     readers of an accepted plan
 //   named    its named belts, and their places
+//   adjacency   its belts side by side, by the junction that they leave
+pub mod adjacency;
 mod belts;
 mod chain;
 pub mod check;

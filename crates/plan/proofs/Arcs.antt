@@ -1,0 +1,213 @@
+-- Belts side by side (specs/Adjacency.antt): what the readers of the arrays go by, and the code that fills them.
+--
+--   arc-parts          the parts of a belt's number are the belt's
+--   order-few          at most 2,047 belts are in order
+--   order-next         how many belts leave junctions up to u, one junction further
+--   ends-at            the array of ends has that number for every junction
+--   arcs-of            the arcs of a junction are its belts
+--   arcsTo, endsTo     the arrays, filled for the junctions up to u
+--   length-arcs        there are 2,048 arcs
+--   arcs-none, ends-none
+--                      before the first junction the arrays are fresh
+--   arcs-more, ends-more
+--                      one junction further
+--   arcs-all, ends-all for all junctions they are the whole arrays
+--
+-- Assumes nothing.
+use mathlib.Core.Path.{_≡_, refl, sym, _∙_, ap}
+use mathlib.Core.Logic.{_⊎_, inl, inr}
+use mathlib.Core.Bool.{Bool, true, false}
+use Prim.Native.Nat.{ℕ, zero, suc, _+_, _-_, _<_, _≤_}
+use mathlib.Core.List.{List, [], _∷_, _++_, map, List·Memᴰ, append-nil, append-assoc, map-append}
+use native.Mathlib.Omega.{arith}
+use native.Mathlib.Nat.{eq-or-lt-of-le}
+use lib.ListN.{length, getD, take, drop, set, replicate, length-append, length-map, length-replicate, List·getD-append}
+use lib.Seq.{take-at, drop-at, drop-append-add, set-at, append-snoc}
+use lib.Dec.{eqb, leb}
+use borrow.Author.Tests.{eqb-true, leb-true, leb-false}
+use Rattle.plan.specs.Lists.{counted, count, run, upto}
+use Rattle.plan.specs.Records.{kind, junctions, records}
+use Rattle.plan.specs.Plan.{Belt, Plan, planOf, beltAt, beltRecords, leaving}
+use Rattle.plan.specs.Reading.{Accepted, Bytes}
+use Rattle.plan.specs.Adjacency.{arcOf, arcCost, arcHead, arcName, inOrder, arcsOf, endsOf}
+use Rattle.plan.proofs.Lists.{length-run, run-split, getD-run}
+use Rattle.plan.proofs.Counts.{length-keep}
+use Rattle.plan.proofs.Forms.{few}
+use Rattle.plan.proofs.Places.{drop-replicate}
+use Rattle.plan.proofs.Accepted.{accepted-passed}
+use Rattle.plan.proofs.Reading.{plan-sizes, belt-of, belt-low, belt-ends, belts-cost}
+
+-- ---- one belt
+
+module _ {b : List ℕ} (ok : Accepted b) (bytes : Bytes b) where
+  pub arc-parts : (e : Belt) → List·Memᴰ e (planOf b .belts) → (arcCost (arcOf e) ≡ e .cost) × (arcHead (arcOf e) ≡ e .leads) × (arcName (arcOf e) ≡ e .name)
+  arc-parts e m =
+      let name = belt-low ok (e .name) (belt-of ok e m .0) .2 in
+      let leads = belt-ends ok e m .2 in
+      let top = plan-sizes ok .1 in
+      let cost = belts-cost ok bytes e m in
+      (omega arith, omega arith, omega arith)
+
+-- ---- belts in order
+
+count-few : {A : Type 0} (f : A → Bool) (xs : List A) → count f xs ≤ length xs
+count-few f [] = omega arith
+count-few f (x ∷ xs) = go (f x) (count-few f xs)
+  where
+    go : (t : Bool) → count f xs ≤ length xs → counted t (count f xs) ≤ suc (length xs)
+    go true h = omega arith
+    go false h = omega arith
+
+-- those that leave a junction up to u, and those that leave the next, are among those that leave a junction up to the next
+one-further : (u : ℕ) (es : List Belt)
+    → count (λ (e : Belt). leb (e .leaves) u) es + count (λ (e : Belt). eqb (e .leaves) (suc u)) es ≤ count (λ (e : Belt). leb (e .leaves) (suc u)) es
+one-further u [] = omega arith
+one-further u (e ∷ es) = go (leb (e .leaves) u) (eqb (e .leaves) (suc u)) (leb (e .leaves) (suc u)) refl refl refl (one-further u es)
+  where
+    low : ℕ
+    low = count (λ (x : Belt). leb (x .leaves) u) es
+
+    next : ℕ
+    next = count (λ (x : Belt). eqb (x .leaves) (suc u)) es
+
+    both : ℕ
+    both = count (λ (x : Belt). leb (x .leaves) (suc u)) es
+
+    go : (s t v : Bool) → leb (e .leaves) u ≡ s → eqb (e .leaves) (suc u) ≡ t → leb (e .leaves) (suc u) ≡ v → low + next ≤ both → counted s low + counted t next ≤ counted v both
+    go false false true p q r h = omega arith
+    go false false false p q r h = omega arith
+    go true false true p q r h = omega arith
+    go false true true p q r h = omega arith
+    go true true v p q r h = absurd (omega (arith, leb-true (e .leaves) u p, eqb-true (e .leaves) (suc u) q))
+    go true false false p q r h = absurd (omega (arith, leb-true (e .leaves) u p, leb-false (e .leaves) (suc u) r))
+    go false true false p q r h = absurd (omega (arith, eqb-true (e .leaves) (suc u) q, leb-false (e .leaves) (suc u) r))
+
+order-count : (p : Plan) (u : ℕ) → length (inOrder p u) ≤ count (λ (e : Belt). leb (e .leaves) u) (p .belts)
+order-count p zero = omega arith
+order-count p (suc u) =
+    omega (arith, length-append (inOrder p u) (leaving p (suc u)), length-keep (λ (e : Belt). eqb (e .leaves) (suc u)) (p .belts), order-count p u, one-further u (p .belts))
+
+-- what comes behind the belts of the junctions up to u
+order-rest : (p : Plan) (u v : ℕ) → u ≤ v → (es : List Belt) × (inOrder p v ≡ inOrder p u ++ es)
+order-rest p u zero h = let e : 0 ≡ u = omega arith in ([], ap (inOrder p) e ∙ sym (append-nil (inOrder p u)))
+order-rest p u (suc v) h = go (eq-or-lt-of-le h) (order-rest p u v)
+  where
+    go : (u ≡ suc v) ⊎ (u < suc v) → (u ≤ v → (es : List Belt) × (inOrder p v ≡ inOrder p u ++ es)) → (es : List Belt) × (inOrder p (suc v) ≡ inOrder p u ++ es)
+    go (inl e) below = ([], ap (inOrder p) (sym e) ∙ sym (append-nil (inOrder p u)))
+    go (inr l) below =
+        let (es, q) = below (omega arith) in
+        (es ++ leaving p (suc v), ap (λ (l : List Belt). l ++ leaving p (suc v)) q ∙ append-assoc (inOrder p u) es (leaving p (suc v)))
+
+module _ {b : List ℕ} (ok : Accepted b) where
+  belts-few : length (planOf b .belts) < 2048
+  unfolding planOf
+  belts-few =
+      let all = upto (suc (junctions b)) (records b) in
+      let isBelt : ℕ → Bool = λ (r : ℕ). eqb (kind b r) 2 in
+      omega
+      (arith, length-map (beltRecords b) (beltAt b), length-keep isBelt all, count-few isBelt all, length-run (suc (junctions b)) (records b - suc (junctions b)), few b (accepted-passed b (ok .unrefused) .0 .0 .0 .0))
+
+  pub order-few : (u : ℕ) → length (inOrder (planOf b) u) < 2048
+  order-few u = omega (arith, order-count (planOf b) u, count-few (λ (e : Belt). leb (e .leaves) u) (planOf b .belts), belts-few)
+
+  pub order-next : (u : ℕ) → length (inOrder (planOf b) (suc u)) ≡ length (inOrder (planOf b) u) + length (leaving (planOf b) (suc u))
+  order-next u = length-append (inOrder (planOf b) u) (leaving (planOf b) (suc u))
+
+  pub ends-at : (u : ℕ) → u ≤ planOf b .junctions → getD (endsOf (planOf b)) u 0 ≡ length (inOrder (planOf b) u)
+  unfolding endsOf
+  ends-at u l =
+      let p = planOf b in
+      let ends : ℕ → ℕ = λ (v : ℕ). length (inOrder p v) in
+      let n = suc (p .junctions) - 0 in
+      let size = length-map (run 0 n) ends ∙ length-run 0 n in
+      let e : 0 + u ≡ u = omega arith in
+      List·getD-append (map ends (run 0 n)) (replicate (256 - p .junctions) 0) 0 u (omega arith) ∙ getD-run ends 0 n u 0 (omega arith) ∙ ap ends e
+
+  pub arcs-of : (u : ℕ) → suc u ≤ planOf b .junctions
+      → take (length (leaving (planOf b) (suc u))) (drop (length (inOrder (planOf b) u)) (arcsOf (planOf b))) ≡ map arcOf (leaving (planOf b) (suc u))
+  unfolding arcsOf
+  arcs-of u l =
+      let p = planOf b in
+      let before = inOrder p u in
+      let here = leaving p (suc u) in
+      let (es, q) = order-rest p (suc u) (p .junctions) l in
+      let fresh = replicate {A = ℕ} (2048 - length (inOrder p (p .junctions))) 0 in
+      let rest = map arcOf es ++ fresh in
+      let split : map arcOf (before ++ here ++ es) ++ fresh ≡ map arcOf before ++ (map arcOf here ++ rest) = simp (map-append, append-assoc) in
+      ap (λ (o : List Belt). take (length here) (drop (length before) (map arcOf o ++ fresh))) q
+      ∙ ap (λ (o : List ℕ). take (length here) (drop (length before) o)) split
+      ∙ ap (take (length here)) (drop-at (map arcOf before) (map arcOf here ++ rest) (length before) (length-map before arcOf))
+      ∙ take-at (map arcOf here) rest (length here) (length-map here arcOf)
+
+-- ---- the arrays, filled for the junctions up to u
+
+abbrev pub arcsTo : Plan → ℕ → List ℕ
+arcsTo p u = map arcOf (inOrder p u) ++ replicate (2048 - length (inOrder p u)) 0
+
+abbrev pub endsTo : Plan → ℕ → List ℕ
+endsTo p u = map (λ (v : ℕ). length (inOrder p v)) (run 0 (suc u)) ++ replicate (256 - u) 0
+
+-- the last of a run
+map-last : (f : ℕ → ℕ) (n : ℕ) → map f (run 0 (suc n)) ≡ map f (run 0 n) ++ (f n ∷ [])
+map-last f n =
+    let one : suc n ≡ n + 1 = omega arith in
+    let at : 0 + n ≡ n = omega arith in
+    ap (λ (m : ℕ). map f (run 0 m)) one
+    ∙ ap (map f) (run-split 0 n 1)
+    ∙ map-append f (run 0 n) (run (0 + n) 1)
+    ∙ ap (λ (m : ℕ). map f (run 0 n) ++ (f m ∷ [])) at
+
+module _ (p : Plan) where
+  pub arcs-none : replicate 2048 0 ≡ arcsTo p 0
+  arcs-none = refl
+
+  pub ends-none : replicate 257 0 ≡ endsTo p 0
+  ends-none = refl
+
+  pub length-arcs : (u : ℕ) → length (inOrder p u) ≤ 2048 → length (arcsTo p u) ≡ 2048
+  length-arcs u h =
+      let fresh = replicate {A = ℕ} (2048 - length (inOrder p u)) 0 in
+      omega (arith, length-append (map arcOf (inOrder p u)) fresh, length-map (inOrder p u) arcOf, length-replicate {A = ℕ} (2048 - length (inOrder p u)) 0)
+
+  -- what stays fresh
+  arcs-left : (u : ℕ)
+      → drop (length (inOrder p u) + length (leaving p (suc u))) (arcsTo p u) ≡ replicate (2048 - length (inOrder p (suc u))) 0
+  arcs-left u =
+      let before = inOrder p u in
+      let here = leaving p (suc u) in
+      let fresh = replicate {A = ℕ} (2048 - length before) 0 in
+      let left : 2048 - length before - length here ≡ 2048 - length (before ++ here) = omega (arith, length-append before here) in
+      ap (λ (n : ℕ). drop (n + length here) (map arcOf before ++ fresh)) (sym (length-map before arcOf))
+      ∙ drop-append-add (map arcOf before) fresh (length here)
+      ∙ drop-replicate (length here) (2048 - length before) 0
+      ∙ ap (λ (n : ℕ). replicate n 0) left
+
+  pub arcs-more : (u : ℕ)
+      → take (length (inOrder p u)) (arcsTo p u) ++ map arcOf (leaving p (suc u)) ++ drop (length (inOrder p u) + length (leaving p (suc u))) (arcsTo p u) ≡ arcsTo p (suc u)
+  arcs-more u =
+      let before = inOrder p u in
+      let here = leaving p (suc u) in
+      let fresh = replicate {A = ℕ} (2048 - length before) 0 in
+      (λ i. take-at (map arcOf before) fresh (length before) (length-map before arcOf) i ++ map arcOf here ++ arcs-left u i)
+      ∙ ap (λ (l : List ℕ). l ++ replicate (2048 - length (before ++ here)) 0) (sym (map-append arcOf before here))
+
+  pub ends-more : (u : ℕ) → u < 256 → set (endsTo p u) (suc u) (length (inOrder p (suc u))) ≡ endsTo p (suc u)
+  ends-more u h =
+      let ends : ℕ → ℕ = λ (v : ℕ). length (inOrder p v) in
+      let low = map ends (run 0 (suc u)) in
+      let rest = replicate {A = ℕ} (256 - suc u) 0 in
+      let one : 256 - u ≡ suc (256 - suc u) = omega arith in
+      ap (λ (n : ℕ). set (low ++ replicate n 0) (suc u) (ends (suc u))) one
+      ∙ set-at low 0 rest (ends (suc u)) (suc u) (length-map (run 0 (suc u)) ends ∙ length-run 0 (suc u))
+      ∙ sym (append-snoc low (ends (suc u)) rest)
+      ∙ ap (λ (l : List ℕ). l ++ rest) (sym (map-last ends (suc u)))
+
+  pub arcs-all : arcsTo p (p .junctions) ≡ arcsOf p
+  unfolding arcsOf
+  arcs-all = refl
+
+  pub ends-all : endsTo p (p .junctions) ≡ endsOf p
+  unfolding endsOf
+  ends-all =
+      let e : suc (p .junctions) ≡ suc (p .junctions) - 0 = omega arith in
+      ap (λ (n : ℕ). map (λ (v : ℕ). length (inOrder p v)) (run 0 n) ++ replicate (256 - p .junctions) 0) e

@@ -1,0 +1,37 @@
+-- The belts of a plan side by side, by the junction that they leave: what the search reads over and over, decoded once. Nothing is said here of
+-- bytes.
+--
+--   arcOf e         a belt in one number: its cost, where it leads, and its name; arcCost, arcHead, arcName: its parts
+--   inOrder p u     the belts that leave junctions 1 to u: junction by junction, those of each in rising index
+--   arcsOf p        all belts in this order, as an array of 2,048 such numbers, the rest of it 0
+--   endsOf p        how many belts leave junctions 1 to u, for each u from 0 on, as an array of 257: the belts of junction u stand in arcsOf from
+--                   place (endsOf u - 1) on and before place (endsOf u); the rest of it is 0
+--
+-- Assumes nothing.
+use Prim.Native.Nat.{ℕ, zero, suc, _+_, _*_, _-_, _/_, _%_}
+use mathlib.Core.List.{List, [], _++_, map}
+use lib.ListN.{length, replicate}
+use Rattle.plan.specs.Lists.{upto}
+use Rattle.plan.specs.Plan.{Belt, Plan, leaving}
+
+abbrev pub arcOf : Belt → ℕ
+arcOf e = e .cost * 4294967296 + (e .leads * 65536 + e .name)
+
+abbrev pub arcCost : ℕ → ℕ
+arcCost a = a / 4294967296
+
+abbrev pub arcHead : ℕ → ℕ
+arcHead a = a / 65536 % 65536
+
+abbrev pub arcName : ℕ → ℕ
+arcName a = a % 65536
+
+abbrev pub inOrder : Plan → ℕ → List Belt
+inOrder p zero = []
+inOrder p (suc u) = inOrder p u ++ leaving p (suc u)
+
+unfoldable pub arcsOf : Plan → List ℕ
+arcsOf p = map arcOf (inOrder p (p .junctions)) ++ replicate (2048 - length (inOrder p (p .junctions))) 0
+
+unfoldable pub endsOf : Plan → List ℕ
+endsOf p = map (λ (u : ℕ). length (inOrder p u)) (upto 0 (suc (p .junctions))) ++ replicate (256 - p .junctions) 0

@@ -1,0 +1,65 @@
+// The belts of an accepted plan side by side, by the junction that they leave, decoded once for a search that reads them over and over.
+use crate::read;
+use crate::read::BeltId;
+ghost use mathlib.Core.Path.{_≡_};
+ghost use mathlib.Core.List.{_++_, map};
+ghost use Prim.Native.Nat.{_+_, _≤_};
+ghost use lib.ListN.{length, take, drop, replicate};
+ghost use Rattle.plan.specs.Plan.{planOf, leaving};
+ghost use Rattle.plan.specs.Reading.{Accepted};
+ghost use Rattle.plan.specs.Adjacency.{arcOf, arcCost, arcHead, arcName, arcsOf, endsOf};
+
+// The cost of an arc.
+pub fn cost(arc: u64) -> u64
+    ensures { λ v. ⌜ v ≡ arcCost arc ⌝ }
+{
+    arc / 4294967296
+}
+
+// The junction that an arc leads to.
+pub fn head(arc: u64) -> usize
+    ensures { λ v. ⌜ v ≡ arcHead arc ⌝ }
+{
+    (arc / 65536 % 65536) as usize
+}
+
+// The belt that an arc is.
+pub fn name(arc: u64) -> BeltId
+    ensures { λ v. ⌜ v .0 ≡ arcName arc ⌝ }
+{
+    BeltId((arc % 65536) as u16)
+}
+
+// Puts the belts that leave junction u behind the first `from` arcs, and answers how many there are then.
+fn put_leaving(p: &[u8], u: usize, from: usize, arcs: &mut [u64; 2048]) -> usize
+    requires { ⌜ Accepted (now p) × (1 ≤ u) × (u ≤ planOf (now p) .junctions) × (from + length (leaving (planOf (now p)) u) ≤ 2048) × (length (now arcs) ≡ 2048) ⌝ }
+    ensures { λ v. ⌜ (v ≡ from + length (leaving (planOf (now (p .entry))) u)) × (now (arcs .exit) ≡ take from (now (arcs .entry)) ++ map arcOf (leaving (planOf (now (p .entry))) u) ++ drop (from + length (leaving (planOf (now (p .entry))) u)) (now (arcs .entry))) ⌝ }
+{
+    let mut count = from;
+    let mut belt = read::first_belt(p, u);
+    while belt.0 != 0 {
+        let to = read::leads_to(p, belt) as u64;
+        arcs[count] = read::cost(p, belt) * 4294967296 + (to * 65536 + belt.0 as u64);
+        count += 1;
+        belt = read::next_belt(p, belt);
+    }
+    count
+}
+
+// Puts the belts of an accepted plan side by side into `arcs`, which are all 0 before, and answers where those of each junction end: the belts that
+// leave junction u are the arcs from place ends[u - 1] on and before place ends[u]. Each belt is read once.
+pub fn decode(p: &[u8], arcs: &mut [u64; 2048]) -> [u16; 257]
+    requires { ⌜ Accepted (now p) × (now arcs ≡ replicate 2048 0) ⌝ }
+    ensures { λ v. ⌜ (v ≡ endsOf (planOf (now (p .entry)))) × (now (arcs .exit) ≡ arcsOf (planOf (now (p .entry)))) ⌝ }
+{
+    let mut ends = [0u16; 257];
+    let last = read::junctions(p);
+    let mut count = 0;
+    let mut u = 0;
+    while u < last {
+        u += 1;
+        count = put_leaving(p, u, count, arcs);
+        ends[u] = count as u16;
+    }
+    ends
+}
