@@ -14,7 +14,7 @@ ghost use Prim.Native.Nat.{_^_, _<_};
 ghost use Rattle.plan.specs.Plan.{planOf};
 ghost use Rattle.plan.specs.Reading.{Accepted};
 ghost use Rattle.route.specs.Routes.{wrongEnds};
-ghost use Rattle.route.specs.Values.{namedPlaces};
+ghost use Rattle.route.specs.Values.{OfNamed, namedPlaces};
 
 // Belts as a mask over the named belts, and whether all of them are named.
 struct Mask {
@@ -85,6 +85,16 @@ fn print_relaxed(relaxed: Relaxed) {
     }
 }
 
+// The relaxed route of a subproblem, over what is made of the plan for it.
+fn relaxed_over(p: &[u8], places: &[u8; 2048], trip: Trip, fixings: Fixings) -> Relaxed
+    requires { ⌜ Accepted (now p) × (now places ≡ namedPlaces (now p)) × (wrongEnds (planOf (now p)) (trip .s) (trip .t) ≡ false) × OfNamed (now p) (fixings .required) ⌝ }
+{
+    let mut arcs = [0u64; 2048];
+    let ends = plan::adjacency::decode(p, &mut arcs);
+    let exits = route::relax::exits(p, places, &ends, &arcs);
+    route::relax::relaxed_route(p, places, &ends, &arcs, &exits, trip, fixings)
+}
+
 // The relaxed route between two junctions of an accepted plan. The places of named belts are below their count, so no mask of theirs goes
 // beyond it.
 fn print_fixed(p: &[u8], places: &[u8; 2048], trip: Trip, required: Mask, forbidden: Mask)
@@ -96,7 +106,7 @@ fn print_fixed(p: &[u8], places: &[u8; 2048], trip: Trip, required: Mask, forbid
             required: required.bits,
             forbidden: forbidden.bits,
         };
-        print_relaxed(route::relax::relaxed_route(p, places, trip, fixings));
+        print_relaxed(relaxed_over(p, places, trip, fixings));
         return;
     }
     io::write_all(1, b" not named");

@@ -1,8 +1,8 @@
 -- Numbers by their bits: settings of modes, and masks.
 --
 --   isSet n k      bit k of n is 1
---   or-set         the bits of either of two numbers
---   or-power       setting bit i sets it and leaves the others
+--   or-set         the bits of either of two numbers; or-power: setting bit i sets it and leaves the others
+--   and-set        the bits that two numbers have in common
 --   without-set    the bits of a number that another does not have
 --   ones-set       the first w bits of 2^w - 1 are all 1
 --   lowest-none, lowest-set
@@ -19,7 +19,7 @@ use native.Mathlib.Omega.{arith}
 use native.Mathlib.Nat.{one-mul, div-eq-of-lt, two-pow-succ}
 use native.Mathlib.Numerals.{one-add, sub-one}
 use lib.Pow.{pow-pos, shl-exact, shr-shr}
-use lib.Bits.{bitOr, bitXor, or-shr, or-mod, xor-shr, xor-mod}
+use lib.Bits.{bitAnd, bitOr, bitXor, and-shr, and-mod, or-shr, or-mod, xor-shr, xor-mod}
 use lib.Count.{under, trailingZeros}
 use lib.Dec.{eqb, lit<, eqb·zero-suc, eqb·suc-zero, eqb·suc-suc}
 use Rattle.route.specs.Permission.{isOn}
@@ -64,6 +64,20 @@ or-power n i j = or-set n (2 ^ i) j ∙ ap (λ (t : Bool). isSet n j || t) (powe
 
 pub shifted : (k w : ℕ) → k < w → (1 * 2 ^ k) % 2 ^ w ≡ 2 ^ k
 shifted k w h = shl-exact 1 k w (lit< tt) (omega arith) ∙ one-mul (2 ^ k)
+
+-- ---- bits in common
+
+and-one : (x y : ℕ) → x < 2 → y < 2 → eqb (bitAnd x y) 1 ≡ (eqb x 1 && eqb y 1)
+and-one zero y h k = refl
+and-one (suc zero) zero h k = refl
+and-one (suc zero) (suc zero) h k = refl
+and-one (suc zero) (suc (suc y)) h k = absurd (omega arith)
+and-one (suc (suc x)) y h k = absurd (omega arith)
+
+pub and-set : (a c j : ℕ) → isSet (bitAnd a c) j ≡ (isSet a j && isSet c j)
+and-set a c j =
+    ap (λ (m : ℕ). eqb m 1) (ap (λ (m : ℕ). m % 2) (and-shr a c j) ∙ and-mod (a / 2 ^ j) (c / 2 ^ j) 1)
+    ∙ and-one (a / 2 ^ j % 2) (c / 2 ^ j % 2) (omega arith) (omega arith)
 
 -- ---- taking bits away
 

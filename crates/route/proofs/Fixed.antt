@@ -1,5 +1,6 @@
--- Masks over the named belts: which belts they fix, and whether a route has all that are required.
+-- Masks over the named belts: which belts they fix.
 --
+--   fixes ns m e        of the belts ns the mask m fixes belt e
 --   has-named           a belt whose place a mask has is a named belt
 --   fixed-mem           a belt is fixed exactly when the mask has its place
 --   nothing-has         the mask 0 fixes no belt
@@ -9,42 +10,40 @@
 --   place-equal         two named belts have one place exactly when they are one
 --   with-low, with-belt a mask with a named belt in it is of named belts, and has that belt and those that it had
 --   masks-equal         masks that have the same named belts are equal
---   joining t m q       the mask m, with the place q in it if t says so
---   gathered ns required m es
---                       the mask m with the places of those of the belts es that are required
---   gathered-all, all-gathered
---                       gathered from nothing it is the mask of the required belts exactly when all of them are among es
+--   joined-fixes        two masks joined have the belts of both; common-fixes: what they have in common, those that both have
+--   gathered-from       the mask gathered from some belts has a named belt exactly when it is one of them
 --
 -- Every bit that a mask can have is the place of a named belt, so masks are compared belt by belt: they are equal where they have the same
 -- named belts. Assumes nothing.
 use mathlib.Core.Path.{_≡_, refl, sym, _∙_, ap, subst}
-use mathlib.Core.Bool.{Bool, true, false, _&&_, _||_, or-false, or-assoc, and-false, and-or-distrib-left}
+use mathlib.Core.Logic.{_⊎_, inl, inr}
+use mathlib.Core.Bool.{Bool, true, false, _&&_, _||_, or-false, or-assoc}
 use Prim.Native.Nat.{ℕ, _%_, _^_, _<_}
-use mathlib.Core.List.{List, [], _∷_, List·Memᴰ}
+use mathlib.Core.List.{List, [], _∷_, List·Memᴰ, List·Memᴰ·head, List·Memᴰ·tail, Memᴰ·cast}
 use native.Mathlib.Omega.{arith}
 use native.Mathlib.Nat.{zero-div}
-use lib.Pow.{pow-lt, pow-pos}
-use lib.Bits.{or-lt}
+use lib.Pow.{pow-lt}
+use lib.Bits.{bitAnd, bitOr, or-lt}
 use lib.ListN.{length, getD}
 use lib.Dec.{eqb, ltb}
-use borrow.Author.Tests.{eqb-true, eq-eqb}
+use borrow.Author.Tests.{eqb-true, eq-eqb, ne-eqb}
 use Rattle.plan.specs.declared.named.Place.{Place}
-use Rattle.plan.specs.declared.named.Place.the-variants.{At}
-use Rattle.plan.specs.Lists.{all, count, mem}
-use Rattle.plan.specs.Plan.{planOf, namesOf, named, placeBy, placeOf, placeIn}
+use Rattle.plan.specs.declared.named.Place.the-variants.{At, Unnamed}
+use Rattle.plan.specs.Lists.{count, mem}
+use Rattle.plan.specs.Plan.{planOf, namesOf, named, placeBy, placeOf, placesOf, placeIn}
 use Rattle.plan.specs.Reading.{Accepted}
-use Rattle.plan.proofs.Lists.{both, and-is, never, untrue, alike, all-in, all-is, in-keep, keep-in, in-mem, mem-in}
+use Rattle.plan.proofs.Lists.{test, never, alike, in-keep, keep-in, in-mem, mem-in}
 use Rattle.plan.proofs.Rising.{Rises}
 use Rattle.plan.proofs.Naming.{named-in, named-rises}
 use Rattle.plan.proofs.Places.{at-place, place-at, place-in, place-is}
 use Rattle.plan.proofs.Reading.{belt-named, named-few}
-use Rattle.route.specs.Values.{inMask, fixedIn, namedPlaces, LowPlace, withPlace}
-use Rattle.route.proofs.Bits.{or-power, bits-equal}
+use Rattle.route.specs.Values.{inMask, fixedIn, namedPlaces, LowPlace, withPlace, gatheredIn}
+use Rattle.route.proofs.Bits.{or-set, or-power, and-set, bits-equal}
 
 -- ---- which belts a mask fixes
 
 -- of the belts ns the mask m fixes belt e
-abbrev fixes : List ℕ → ℕ → ℕ → Bool
+abbrev pub fixes : List ℕ → ℕ → ℕ → Bool
 fixes ns m e = inMask m (placeOf ns e)
 
 -- then it is one of them
@@ -85,16 +84,24 @@ module _ {b : List ℕ} (ok : Accepted b) where
       go true h = omega (arith, at-place e (named-rises b) (mem-in ns h) .1, named-few ok)
       go false h = tt
 
+-- ---- masks joined, and what they have in common
+
+module _ (ns : List ℕ) (a c e : ℕ) where
+  -- what holds of masks at each place, and where there is none, holds of them at the place of a belt
+  by-place : (P : Place → Type 0) → ((k : ℕ) → P (At k)) → P Unnamed → P (placeOf ns e)
+  by-place P at none = go (mem e ns)
+    where
+      go : (t : Bool) → P (placeBy t (count (λ (n : ℕ). ltb n e) ns))
+      go true = at (count (λ (n : ℕ). ltb n e) ns)
+      go false = none
+
+  pub joined-fixes : fixes ns (bitOr a c) e ≡ (fixes ns a e || fixes ns c e)
+  joined-fixes = by-place (λ (q : Place). inMask (bitOr a c) q ≡ (inMask a q || inMask c q)) (or-set a c) refl
+
+  pub common-fixes : fixes ns (bitAnd a c) e ≡ (fixes ns a e && fixes ns c e)
+  common-fixes = by-place (λ (q : Place). inMask (bitAnd a c) q ≡ (inMask a q && inMask c q)) (and-set a c) refl
+
 -- ---- masks of named belts
-
--- the mask m, with the place q in it if that is wanted
-abbrev pub joining : Bool → ℕ → Place → ℕ
-joining true m q = withPlace m q
-joining false m q = m
-
-abbrev pub gathered : List ℕ → ℕ → ℕ → List ℕ → ℕ
-gathered ns required m [] = m
-gathered ns required m (e ∷ es) = gathered ns required (joining (inMask required (placeOf ns e)) m (placeOf ns e)) es
 
 module _ {ns : List ℕ} (rises : Rises ns) where
   -- the place of a named belt: as many are lower
@@ -128,64 +135,27 @@ module _ {ns : List ℕ} (rises : Rises ns) where
       let at : placeOf ns e ≡ At j = place-in e ns m ∙ ap (λ (n : ℕ). At n) q in
       sym (ap (inMask a) at) ∙ same e m ∙ ap (inMask c) at)
 
-  module _ (required : ℕ) where
-    abbrev needed : ℕ → Bool
-    needed e = fixes ns required e
+  -- a mask with any belt in it has that belt, if it is a named one, and those that it had
+  with-any : (m x e : ℕ) → List·Memᴰ e ns → fixes ns (withPlace m (placeOf ns x)) e ≡ (fixes ns m e || eqb e x)
+  with-any m x e i = go (test (mem x ns))
+    where
+      go : (mem x ns ≡ true) ⊎ (mem x ns ≡ false) → fixes ns (withPlace m (placeOf ns x)) e ≡ (fixes ns m e || eqb e x)
+      go (inl t) = with-belt m x e (mem-in ns t) i
+      go (inr t) =
+          let apart : eqb e x ≡ false = ne-eqb e x (λ q. never (in-mem ns (Memᴰ·cast (sym q) i)) t) in
+          ap (λ (s : Bool). fixes ns (withPlace m (placeBy s (lower x))) e) t
+          ∙ sym (ap (λ (s : Bool). fixes ns m e || s) apart ∙ or-false (fixes ns m e))
 
-    -- m with belt x in it, where that is required
-    abbrev next : ℕ → ℕ → ℕ
-    next m x = joining (needed x) m (placeOf ns x)
+  -- gathered to a mask
+  gathered-has : {places : List ℕ} → places ≡ placesOf ns → (m : ℕ) (es : List ℕ) → ((e : ℕ) → List·Memᴰ e es → e < 2048)
+      → (e : ℕ) → List·Memᴰ e ns → fixes ns (gatheredIn places m es) e ≡ (fixes ns m e || mem e es)
+  gathered-has {places} all m [] low e i = sym (or-false (fixes ns m e))
+  gathered-has {places} all m (x ∷ es) low e i =
+      let there : placeIn places x ≡ placeOf ns x = ap (λ (ps : List ℕ). placeIn ps x) all ∙ place-is ns x (low x (List·Memᴰ·head refl)) in
+      gathered-has all (withPlace m (placeIn places x)) es (λ y j. low y (List·Memᴰ·tail j)) e i
+      ∙ ap (λ (t : Bool). t || mem e es) (ap (λ (q : Place). fixes ns (withPlace m q) e) there ∙ with-any m x e i)
+      ∙ or-assoc (fixes ns m e) (eqb e x) (mem e es)
 
-    next-low : (m x : ℕ) → m < 2 ^ length ns → next m x < 2 ^ length ns
-    next-low m x h = go (needed x) refl
-      where
-        go : (t : Bool) → needed x ≡ t → joining t m (placeOf ns x) < 2 ^ length ns
-        go true k = with-low m x (has-named ns required x k) h
-        go false k = h
-
-    next-has : (m x e : ℕ) → List·Memᴰ e ns → fixes ns (next m x) e ≡ (fixes ns m e || (needed e && eqb e x))
-    next-has m x e i = go (needed x) refl
-      where
-        -- e is required where it is x
-        same : (t : Bool) → needed x ≡ t → eqb e x ≡ true → needed e ≡ t
-        same t k q = ap needed (eqb-true e x q) ∙ k
-
-        go : (t : Bool) → needed x ≡ t → fixes ns (joining t m (placeOf ns x)) e ≡ (fixes ns m e || (needed e && eqb e x))
-        go true k =
-            with-belt m x e (has-named ns required x k) i
-            ∙ ap (λ (q : Bool). fixes ns m e || q)
-            (alike (eqb e x) (needed e && eqb e x) (λ q. and-is (needed e) (eqb e x) (same true k q) q) (λ q. both (needed e) (eqb e x) q .1))
-        go false k =
-            let apart = untrue (needed e && eqb e x) (λ w. let (r, q) = both (needed e) (eqb e x) w in never r (same false k q)) in
-            sym (ap (λ (q : Bool). fixes ns m e || q) apart ∙ or-false (fixes ns m e))
-
-    gathered-low : (m : ℕ) (es : List ℕ) → m < 2 ^ length ns → gathered ns required m es < 2 ^ length ns
-    gathered-low m [] h = h
-    gathered-low m (x ∷ es) h = gathered-low (next m x) es (next-low m x h)
-
-    -- it has the belts that m had, and of the required ones those that are among es
-    gathered-has : (m : ℕ) (es : List ℕ) (e : ℕ) → List·Memᴰ e ns
-        → fixes ns (gathered ns required m es) e ≡ (fixes ns m e || (needed e && mem e es))
-    gathered-has m [] e i =
-        sym (ap (λ (q : Bool). fixes ns m e || q) (and-false (needed e)) ∙ or-false (fixes ns m e))
-    gathered-has m (x ∷ es) e i =
-        gathered-has (next m x) es e i
-        ∙ ap (λ (t : Bool). t || (needed e && mem e es)) (next-has m x e i)
-        ∙ or-assoc (fixes ns m e) (needed e && eqb e x) (needed e && mem e es)
-        ∙ ap (λ (q : Bool). fixes ns m e || q) (sym (and-or-distrib-left (needed e) (eqb e x) (mem e es)))
-
-    from-nothing : (es : List ℕ) (e : ℕ) → List·Memᴰ e ns → fixes ns (gathered ns required 0 es) e ≡ (needed e && mem e es)
-    from-nothing es e i = gathered-has 0 es e i ∙ ap (λ (t : Bool). t || (needed e && mem e es)) (nothing-has ns e)
-
-    pub gathered-all : (es : List ℕ) → gathered ns required 0 es ≡ required → all (λ (e : ℕ). mem e es) (fixedIn ns required) ≡ true
-    gathered-all es h =
-        all-is (λ (e : ℕ). mem e es) (fixedIn ns required) (λ e m.
-        let (i, k) = keep-in needed ns m in
-        both (needed e) (mem e es) (sym (from-nothing es e i) ∙ ap (λ (a : ℕ). fixes ns a e) h ∙ k) .1)
-
-    pub all-gathered : required < 2 ^ length ns → (es : List ℕ) → all (λ (e : ℕ). mem e es) (fixedIn ns required) ≡ true → gathered ns required 0 es ≡ required
-    all-gathered low es h =
-        masks-equal (gathered ns required 0 es) required (gathered-low 0 es (pow-pos (length ns))) low (λ e i.
-        from-nothing es e i
-        ∙ alike (needed e && mem e es) (needed e) (λ k. both (needed e) (mem e es) k .0)
-        (λ k. and-is (needed e) (mem e es) k (all-in (λ (e : ℕ). mem e es) (fixedIn ns required) h (in-keep needed ns i k))))
+  pub gathered-from : {places : List ℕ} → places ≡ placesOf ns → (es : List ℕ) → ((e : ℕ) → List·Memᴰ e es → e < 2048)
+      → (e : ℕ) → List·Memᴰ e ns → fixes ns (gatheredIn places 0 es) e ≡ mem e es
+  gathered-from all es low e i = gathered-has all 0 es low e i ∙ ap (λ (t : Bool). t || mem e es) (nothing-has ns e)

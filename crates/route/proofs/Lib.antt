@@ -11,9 +11,12 @@ pub mod Cut
 pub mod Enforced
 pub mod Onward
 pub mod Looking
+pub mod Cheapest
 pub mod Ways
 pub mod Passed
 pub mod Fixed
+pub mod Spans
+pub mod Exits
 pub mod Walked
 pub mod Chosen
 pub mod Answered

@@ -9,13 +9,15 @@
 --   way-end, way-past  the way on from t is empty, and past t there is none
 --   way-route          a way on is a route; way-length: it has at most t - u belts
 --   way-next           what follows the first belt of a way on is the way on from where it leads
---   having-all-relaxed the way on from s is the relaxed route if it has every required belt; else there is none
+--   AllOwed b x t s    every required belt is owed from s on
+--   way-relaxed        then the way on from s is the relaxed route
+--   unowed-relaxed     and else there is none
 --
 -- What remains from u on admits a route from u exactly when the route has every belt that is owed and no forbidden one (Admitted);
 -- by this form, in belts instead of their names, all the rest goes. Assumes nothing.
 use mathlib.Core.Path.{_≡_, refl, sym, _∙_, ap}
 use mathlib.Core.Logic.{_↔_, _⊎_, inl, inr}
-use mathlib.Core.Bool.{Bool, true, false, _&&_}
+use mathlib.Core.Bool.{true, false, _&&_}
 use mathlib.Core.Option.{Option, none, some}
 use Prim.Native.Nat.{ℕ, _+_, _≤_, _<_}
 use mathlib.Core.List.{List, [], _∷_, List·Memᴰ, List·Memᴰ·head, List·Memᴰ·tail, Memᴰ·cast}
@@ -23,15 +25,15 @@ use native.Mathlib.Omega.{arith}
 use lib.ListN.{length}
 use lib.Dec.{eqb, leb, ltb}
 use borrow.Author.Tests.{ne-eqb, ltb-true, ltb-false, lt-ltb, leb-true, le-leb}
-use Rattle.plan.specs.Lists.{all, keep, mem}
+use Rattle.plan.specs.Lists.{keep, mem}
 use Rattle.plan.specs.Plan.{Belt, planOf, namesOf}
 use Rattle.plan.specs.Reading.{Accepted}
-use Rattle.plan.proofs.Lists.{test, both, and-is, neither, or-is, never, untrue, each, all-in, all-is, in-keep, keep-in, in-map, map-in, in-mem, mem-in}
+use Rattle.plan.proofs.Lists.{test, both, and-is, neither, or-is, never, untrue, each, in-keep, keep-in, in-map, map-in, in-mem, mem-in}
 use Rattle.plan.proofs.Reading.{belt-ends}
 use Rattle.route.specs.Routes.{IsRoute, before}
-use Rattle.route.specs.Permission.{passes, orElse}
+use Rattle.route.specs.Permission.{passes}
 use Rattle.route.specs.Subproblems.{Subproblem, admits, relaxed}
-use Rattle.route.specs.Inner.{isRequired, isForbidden, isOwed, remaining, wayOn, havingAll}
+use Rattle.route.specs.Inner.{isRequired, isForbidden, isOwed, remaining, wayOn}
 use Rattle.route.proofs.ByName.{route-length}
 use Rattle.route.proofs.Order.{before-cons, ends-claim}
 use Rattle.route.proofs.Firsts.{admits-is, is-admits, relaxed-some, relaxed-none, is-relaxed, no-relaxed}
@@ -47,6 +49,9 @@ pub record Owed (b : List ℕ) (x : Subproblem) (t u : ℕ) (g : Belt) : Type 0 
 
 pub owed-between : {b : List ℕ} {x : Subproblem} {t u : ℕ} {g : Belt} → Owed b x t u g → (v w : ℕ) → v ≤ g .leaves → g .leaves < w → Owed b x w v g
 owed-between l v w h k = record { belt = l .belt; wanted = l .wanted; from = h; before-t = k }
+
+abbrev pub AllOwed : List ℕ → Subproblem → ℕ → ℕ → Type 0
+AllOwed b x t s = (n : ℕ) → List·Memᴰ n (x .required) → (g : Belt) × Owed b x t s g × (n ≡ g .name)
 
 -- route r has the belts that are owed from u on, and no forbidden one
 record Admitted (b : List ℕ) (x : Subproblem) (t u : ℕ) (r : List Belt) : Type 0 where
@@ -148,17 +153,12 @@ module _ {b : List ℕ} (ok : Accepted b) (x : Subproblem) (t s : ℕ) where
       let cut = cut-claim b ok s t q h g m .0 k in
       record { belt = m; wanted = w; from = cut .from; before-t = cut .before-t }
 
-  -- so where x admits some route q, a route that what remains admits has every required belt
-  remaining-whole : ((e : ℕ) → List·Memᴰ e (x .required) → mem e (namesOf (planOf b .belts)) ≡ true)
-      → (q : List Belt) → IsRoute (planOf b) s t q → admits x q ≡ true
-      → (r : List Belt) → admits (remaining (planOf b) x t s) r ≡ true → all (passes r) (x .required) ≡ true
-  remaining-whole named q h a r l = all-is (passes r) (x .required) has
-    where
-      has : (n : ℕ) → List·Memᴰ n (x .required) → passes r n ≡ true
-      has n m =
-          let (g, i, e) = map-in (λ (f : Belt). f .name) (planOf b .belts) (mem-in (namesOf (planOf b .belts)) (named n m)) in
-          let k : Owed b x t s g = on-owed q h g i (in-mem (x .required) (Memᴰ·cast (sym e) m)) (ap (passes q) (sym e) ∙ admits-is x q a .0 n m) in
-          ap (passes r) e ∙ admits-is (remaining (planOf b) x t s) r l .0 (g .name) (in-remaining x t s g k)
+  -- so where x admits some route, all of them are
+  admitted-owed : ((e : ℕ) → List·Memᴰ e (x .required) → mem e (namesOf (planOf b .belts)) ≡ true)
+      → (q : List Belt) → IsRoute (planOf b) s t q → admits x q ≡ true → AllOwed b x t s
+  admitted-owed named q h a n m =
+      let (g, i, e) = map-in (λ (f : Belt). f .name) (planOf b .belts) (mem-in (namesOf (planOf b .belts)) (named n m)) in
+      (g, on-owed q h g i (in-mem (x .required) (Memᴰ·cast (sym e) m)) (ap (passes q) (sym e) ∙ admits-is x q a .0 n m), e)
 
 -- ---- the way on
 
@@ -199,21 +199,18 @@ module _ {b : List ℕ} (ok : Accepted b) (x : Subproblem) (t : ℕ) where
       λ q l c. let w : IsRoute (planOf b) u t (e ∷ q) = (k .0, k .1, l) in sym (before-cons e q r) ∙ least (e ∷ q) w (remaining-step u e q w .1 (g, c)) in
       (k .0, k .1, is-relaxed ok (e .leads) t (remaining (planOf b) x t (e .leads)) r (k .2) rest first)
 
-  pub having-all-relaxed : (s : ℕ) → ((e : ℕ) → List·Memᴰ e (x .required) → mem e (namesOf (planOf b .belts)) ≡ true)
-      → havingAll x (wayOn (planOf b) x t s) ≡ relaxed (planOf b) s t x
-  having-all-relaxed s named = go (wayOn (planOf b) x t s) refl
+  pub way-relaxed : (s : ℕ) → AllOwed b x t s → wayOn (planOf b) x t s ≡ relaxed (planOf b) s t x
+  way-relaxed s owed = go (wayOn (planOf b) x t s) refl
     where
-      by : (r : List Belt) → wayOn (planOf b) x t s ≡ some r → (all (passes r) (x .required) ≡ true) ⊎ (all (passes r) (x .required) ≡ false)
-          → havingAll x (some r) ≡ relaxed (planOf b) s t x
-      by r e (inl k) =
-          let (h, a, least) = relaxed-some ok s t (remaining (planOf b) x t s) r e in
-          let admitted : admits x r ≡ true =
-          is-admits x r (λ n m. all-in (passes r) (x .required) k m) (admits-is (remaining (planOf b) x t s) r a .1) in
-          ap (λ (has : Bool). orElse has r none) k ∙ sym (is-relaxed ok s t x r h admitted (λ q l c. least q l (whole-remaining ok x t s q c)))
-      by r e (inr k) =
-          let (h, a, least) = relaxed-some ok s t (remaining (planOf b) x t s) r e in
-          ap (λ (has : Bool). orElse has r none) k ∙ sym (no-relaxed ok s t x (λ q l c. never (remaining-whole ok x t s named q l c r a) k))
-
-      go : (o : Option (List Belt)) → wayOn (planOf b) x t s ≡ o → havingAll x o ≡ relaxed (planOf b) s t x
+      go : (o : Option (List Belt)) → wayOn (planOf b) x t s ≡ o → o ≡ relaxed (planOf b) s t x
       go none e = sym (no-relaxed ok s t x (λ q h a. relaxed-none ok s t (remaining (planOf b) x t s) e q h (whole-remaining ok x t s q a)))
-      go (some r) e = by r e (test (all (passes r) (x .required)))
+      go (some r) e =
+          let (h, a, least) = relaxed-some ok s t (remaining (planOf b) x t s) r e in
+          let (has, allowed) = admits-is (remaining (planOf b) x t s) r a in
+          let admitted : admits x r ≡ true =
+          is-admits x r (λ n m. let (g, l, q) = owed n m in ap (passes r) q ∙ has (g .name) (in-remaining x t s g l)) allowed in
+          sym (is-relaxed ok s t x r h admitted (λ q l c. least q l (whole-remaining ok x t s q c)))
+
+  pub unowed-relaxed : (s : ℕ) → ((e : ℕ) → List·Memᴰ e (x .required) → mem e (namesOf (planOf b .belts)) ≡ true)
+      → (AllOwed b x t s → ⊥) → relaxed (planOf b) s t x ≡ none
+  unowed-relaxed s named h = no-relaxed ok s t x (λ q r a. h (admitted-owed ok x t s named q r a))

@@ -7,6 +7,9 @@
 --   contentRefusal p s t v
 --                   the first broken one of lines 11 to 14 (sheetBy), or 0, by what a sheet in the form says
 -- The relaxed route, found from t backwards:
+--   Lent b places ends arcs
+--                   what is lent with the plan b is made of it: it is accepted, and these are the places of its named belts and its belts
+--                   side by side
 --   isRequired x e, isForbidden x e
 --                   belt e is required, and is forbidden, by the subproblem x
 --   isOwed x t u e  belt e is required, and leaves u or a later junction before t
@@ -18,6 +21,7 @@
 --   wayOver costs nearest forbidden e
 --                   the same by an array of the costs from later junctions; a forbidden belt drops out (orShut), and one that leads past the
 --                   junction nearest. costBy x costs nearest e: the same by the subproblem x
+--   arcBelt a       what an arc says of its belt; where the belt leaves it does not say
 --   preferred way e c required
 --                   the way on from a junction, once its belt e is looked at, by which it costs c; noWay: before the first
 --   wayBy x costs nearest way es
@@ -26,7 +30,8 @@
 --                   the way on from u begins with belt v, if it begins with any
 --   Guides b f t s firsts
 --                   from s on each way on begins with the belt that firsts has for its junction
---   havingAll x o   the route o, if it has every required belt
+--   joinedIn masks m us
+--                   the mask m with all places of the masks that the array has for us
 --
 -- Assumes nothing.
 use mathlib.Core.Path.{_≡_}
@@ -34,11 +39,14 @@ use Prim.Native.Nat.{ℕ, _+_, _^_, _≤_, _<_}
 use mathlib.Core.Bool.{Bool, true, false, not, _&&_, _||_}
 use mathlib.Core.Option.{Option, none, some}
 use mathlib.Core.List.{List, [], _∷_, _++_, List·Memᴰ}
+use lib.Bits.{bitOr}
 use lib.ListN.{length, getD, take, drop}
 use lib.Dec.{eqb, leb, ltb}
 use Rattle.plan.specs.declared.read.BeltId.{BeltId}
 use Rattle.plan.specs.Lists.{all, keep, mem}
 use Rattle.plan.specs.Plan.{Belt, Plan, planOf, namesOf, beltId}
+use Rattle.plan.specs.Adjacency.{arcCost, arcHead, arcName, arcsOf, endsOf}
+use Rattle.plan.specs.Reading.{Accepted}
 use Rattle.plan.specs.declared.read.Literal.{Literal}
 use Rattle.plan.specs.declared.read.Literal.the-variants.{OfBelt, OfMode}
 use Rattle.route.specs.declared.path.Route.{Route}
@@ -46,9 +54,9 @@ use Rattle.route.specs.declared.sheet.Sheet.{Sheet}
 use Rattle.route.specs.declared.relax.Fixings.{Fixings}
 use Rattle.route.specs.declared.relax.Way.{Way}
 use Rattle.route.specs.Routes.{connects, cost, costLimit, first, beltsByName}
-use Rattle.route.specs.Permission.{passes, allMet, orElse}
+use Rattle.route.specs.Permission.{passes, allMet}
 use Rattle.route.specs.Subproblems.{Subproblem, relaxed}
-use Rattle.route.specs.Values.{idsOf, subproblemIn}
+use Rattle.route.specs.Values.{idsOf, subproblemIn, namedPlaces}
 
 abbrev pub placed : List ℕ → ℕ → List ℕ → List ℕ
 placed l i vs = take i l ++ vs ++ drop (i + length vs) l
@@ -81,6 +89,12 @@ contentRefusal p s t v =
     (not (allMet (p .rules) (passes r) (v .setting)))
 
 -- ---- the relaxed route
+
+pub record Lent (b places ends arcs : List ℕ) : Type 0 where
+  pub accepted : Accepted b
+  pub placed : places ≡ namedPlaces b
+  pub ended : ends ≡ endsOf (planOf b)
+  pub listed : arcs ≡ arcsOf (planOf b)
 
 abbrev pub isRequired : Subproblem → Belt → Bool
 isRequired x e = mem (e .name) (x .required)
@@ -115,6 +129,9 @@ onBy e c = orShut (eqb c costLimit) (e .cost + c)
 abbrev pub wayOver : List ℕ → ℕ → Bool → Belt → ℕ
 wayOver costs nearest forbidden e = orShut (forbidden || ltb nearest (e .leads)) (onBy e (getD costs (e .leads) 0))
 
+abbrev pub arcBelt : ℕ → Belt
+arcBelt a = record { name = arcName a; leaves = 0; leads = arcHead a; cost = arcCost a }
+
 abbrev pub costBy : Subproblem → List ℕ → ℕ → Belt → ℕ
 costBy x costs nearest e = wayOver costs nearest (isForbidden x e) e
 
@@ -144,6 +161,6 @@ Begins p x t u v = (e : Belt) (r : List Belt) → wayOn p x t u ≡ some (e ∷ 
 abbrev pub Guides : List ℕ → Fixings → ℕ → ℕ → List BeltId → Type 0
 Guides b f t s firsts = (u : ℕ) → s ≤ u → Begins (planOf b) (subproblemIn b f) t u (getD firsts u (beltId 0))
 
-abbrev pub havingAll : Subproblem → Option (List Belt) → Option (List Belt)
-havingAll x none = none
-havingAll x (some r) = orElse (all (passes r) (x .required)) r none
+abbrev pub joinedIn : List ℕ → ℕ → List ℕ → ℕ
+joinedIn masks m [] = m
+joinedIn masks m (u ∷ us) = joinedIn masks (bitOr m (getD masks u 0)) us

@@ -15,6 +15,9 @@
 --   OfNamed b m      the mask m has no other places than those of the named belts of the plan b
 --   subproblemIn b f the subproblem of the plan b that the masks f stand for
 --   namedPlaces b    the places of the named belts of the plan b, as the code looks them up
+--   gatheredIn places m es
+--                    the mask m with the places of the belts es, as the array of places has them
+--   exitsOf b        for each number from 0 to 256 the named belts of the plan b that leave the junction of this number, as a mask
 --   relaxedAs o      the answer that stands for a relaxed route, or for none
 --   caseOf b trip h  the case of the sheet check
 --
@@ -22,7 +25,7 @@
 use Prim.Native.Nat.{ℕ, _-_, _/_, _%_, _^_, _≤_, _<_}
 use mathlib.Core.Bool.{Bool, true, false}
 use mathlib.Core.Option.{Option, none, some}
-use mathlib.Core.List.{List, [], _++_, map, List·Memᴰ}
+use mathlib.Core.List.{List, [], _∷_, _++_, map, List·Memᴰ}
 use lib.Bits.{bitOr}
 use lib.ListN.{length, getD, take, replicate}
 use lib.Dec.{eqb}
@@ -30,7 +33,7 @@ use Rattle.plan.specs.declared.read.BeltId.{BeltId}
 use Rattle.plan.specs.declared.named.Place.{Place}
 use Rattle.plan.specs.declared.named.Place.the-variants.{At, Unnamed}
 use Rattle.plan.specs.Lists.{keep, mem, upto}
-use Rattle.plan.specs.Plan.{Belt, planOf, namesOf, named, beltId, placeOf, placesOf}
+use Rattle.plan.specs.Plan.{Belt, planOf, namesOf, leaving, named, beltId, placeOf, placesOf, placeIn}
 use Rattle.plan.specs.Reading.{IsBelt}
 use Rattle.route.specs.declared.path.Route.{Route}
 use Rattle.route.specs.declared.sheet.Sheet.{Sheet}
@@ -98,6 +101,13 @@ subproblemIn b f = record { required = fixedIn (named (planOf b)) (f .required);
 
 abbrev pub namedPlaces : List ℕ → List ℕ
 namedPlaces b = placesOf (named (planOf b))
+
+abbrev pub gatheredIn : List ℕ → ℕ → List ℕ → ℕ
+gatheredIn places m [] = m
+gatheredIn places m (e ∷ es) = gatheredIn places (withPlace m (placeIn places e)) es
+
+unfoldable pub exitsOf : List ℕ → List ℕ
+exitsOf b = map (λ (u : ℕ). gatheredIn (namedPlaces b) 0 (namesOf (leaving (planOf b) u))) (upto 0 257)
 
 abbrev pub relaxedAs : Option (List Belt) → Relaxed
 relaxedAs none = record { found = false; route = packed []; cost = 0 }

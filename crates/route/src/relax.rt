@@ -1,29 +1,34 @@
 // The relaxed route of a subproblem: the first route from s to t with every required and no forbidden belt, rules left aside.
 //
 // One pass backwards over the junctions from t to s finds for each the cheapest way on to t; one walk forward along the first belts of these
-// ways is the route. The pass reads each belt that leaves a junction from s on and before t once, and no other; the walk reads those of the
-// route once more.
+// ways is the route. The pass reads each belt that leaves a junction from s on and before t once, and no other, where belts stand side by side
+// (plan::adjacency); the walk reads those of the route once more, in the plan.
 //
 // A required belt that leaves u cuts: every other belt from a junction ≤ u to one > u drops out. Going backwards the cut needs no search. A
 // belt from u drops out if it leads past the nearest junction above u that a required belt leaves, or if a required belt leaves u and it
-// is another one. A required belt that leaves no junction from s on and before t is not seen by the walk.
+// is another one. Where none leaves u, only a belt by which the way on gets cheaper is looked at further. A required belt that leaves no junction
+// from s on and before t is on no route from s to t: such a subproblem is dropped before the pass.
 use crate::masks;
 use crate::path::Route;
 use crate::path::Trip;
+use plan::adjacency;
 use plan::named;
 use plan::read;
 use plan::read::BeltId;
 ghost use mathlib.Core.Path.{_≡_};
 ghost use Prim.Native.Nat.{ℕ, _≤_, _<_};
-ghost use mathlib.Core.Bool.{false};
+ghost use mathlib.Core.Bool.{false, not, _||_};
 ghost use mathlib.Core.Option.{none};
 ghost use lib.ListN.{getD};
-ghost use Rattle.plan.specs.Plan.{planOf, beltAt, leaving};
-ghost use Rattle.plan.specs.Reading.{Accepted, IsBelt};
+ghost use lib.Dec.{ltb};
+ghost use Rattle.plan.specs.Lists.{any, upto};
+ghost use Rattle.plan.specs.Plan.{planOf, namesOf, leaving, placeIn};
+ghost use Rattle.plan.specs.Adjacency.{arcHead, arcName, arcsOf, endsOf};
+ghost use Rattle.plan.specs.Reading.{Accepted};
 ghost use Rattle.route.specs.Routes.{wrongEnds, costLimit};
 ghost use Rattle.route.specs.Subproblems.{relaxed};
-ghost use Rattle.route.specs.Values.{OfNamed, subproblemIn, namedPlaces, relaxedAs};
-ghost use Rattle.route.specs.Inner.{wayOver, preferred, noWay, wayBy, wayIn, wayCost, Guides, havingAll};
+ghost use Rattle.route.specs.Values.{inMask, LowPlace, OfNamed, subproblemIn, namedPlaces, gatheredIn, exitsOf, relaxedAs};
+ghost use Rattle.route.specs.Inner.{Lent, isRequired, arcBelt, wayOver, preferred, noWay, wayBy, wayIn, wayCost, Guides, joinedIn};
 
 // A subproblem: masks over the named belts of the plan, bit k for the belt at place k among them.
 pub struct Fixings {
@@ -56,11 +61,11 @@ struct Ways {
 
 // The cost of the cheapest way on over this belt, where the ways on from later junctions cost `costs`. A forbidden belt drops out, and one
 // that leads past `nearest`.
-fn way_over(p: &[u8], costs: &[u64; 257], nearest: usize, belt: BeltId, forbidden: bool) -> u64
-    requires { ⌜ Accepted (now p) × IsBelt (now p) (belt .0) × ((j : ℕ) → getD (now costs) j 0 ≤ costLimit) ⌝ }
-    ensures { λ v. ⌜ v ≡ wayOver (now (costs .entry)) nearest forbidden (beltAt (now (p .entry)) (belt .0)) ⌝ }
+fn way_over(costs: &[u64; 257], nearest: usize, arc: u64, forbidden: bool) -> u64
+    requires { ⌜ (arcHead arc < 257) × ((j : ℕ) → getD (now costs) j 0 ≤ costLimit) ⌝ }
+    ensures { λ v. ⌜ v ≡ wayOver (now (costs .entry)) nearest forbidden (arcBelt arc) ⌝ }
 {
-    let to = read::leads_to(p, belt);
+    let to = adjacency::head(arc);
     if forbidden || nearest < to {
         return NO_WAY;
     }
@@ -68,7 +73,7 @@ fn way_over(p: &[u8], costs: &[u64; 257], nearest: usize, belt: BeltId, forbidde
     if on == NO_WAY {
         return NO_WAY;
     }
-    read::cost(p, belt) + on
+    adjacency::cost(arc) + on
 }
 
 // The way on from a junction once one more of its belts is looked at. A required belt drops the others, and a second required one itself;
@@ -103,16 +108,18 @@ fn preferred(way: Way, belt: BeltId, cost: u64, required: bool) -> Way
     way
 }
 
-// The cheapest way on from junction u.
-fn way_from(
+// The cheapest way on from junction u, each of its belts looked at in turn.
+fn way_by(
     p: &[u8],
     places: &[u8; 2048],
+    ends: &[u16; 257],
+    arcs: &[u64; 2048],
     fixings: Fixings,
     costs: &[u64; 257],
     nearest: usize,
     u: usize,
 ) -> Way
-    requires { ⌜ Accepted (now p) × (now places ≡ namedPlaces (now p)) × ((j : ℕ) → getD (now costs) j 0 ≤ costLimit) × (1 ≤ u) × (u ≤ planOf (now p) .junctions) ⌝ }
+    requires { ⌜ Lent (now p) (now places) (now ends) (now arcs) × ((j : ℕ) → getD (now costs) j 0 ≤ costLimit) × (1 ≤ u) × (u ≤ planOf (now p) .junctions) ⌝ }
     ensures { λ v. ⌜ v ≡ wayBy (subproblemIn (now (p .entry)) fixings) (now (costs .entry)) nearest noWay (leaving (planOf (now (p .entry))) u) ⌝ }
 {
     let mut way = Way {
@@ -120,25 +127,100 @@ fn way_from(
         belt: BeltId(0),
         required: false,
     };
-    let mut belt = read::first_belt(p, u);
-    while belt.0 != 0 {
+    let end = ends[u] as usize;
+    let mut i = ends[u - 1] as usize;
+    while i < end {
+        let arc = arcs[i];
+        let belt = adjacency::name(arc);
         let place = named::place_of(places, belt);
-        let over = way_over(
-            p,
-            costs,
-            nearest,
-            belt,
-            masks::has(fixings.forbidden, place),
-        );
+        let over = way_over(costs, nearest, arc, masks::has(fixings.forbidden, place));
         way = preferred(way, belt, over, masks::has(fixings.required, place));
-        belt = read::next_belt(p, belt);
+        i += 1;
     }
     way
 }
 
+// Whether a belt is not forbidden and leads no further than `nearest`.
+fn is_open(places: &[u8; 2048], forbidden: u64, nearest: usize, arc: u64) -> bool
+    requires { ⌜ (arcName arc < 2048) × LowPlace (placeIn (now places) (arcName arc)) ⌝ }
+    ensures { λ v. ⌜ v ≡ not (inMask forbidden (placeIn (now (places .entry)) (arcName arc)) || ltb nearest (arcHead arc)) ⌝ }
+{
+    if nearest < adjacency::head(arc) {
+        return false;
+    }
+    !masks::has(forbidden, named::place_of(places, adjacency::name(arc)))
+}
+
+// The same where no required belt leaves u: a belt by which the way on gets no cheaper is not looked at further.
+fn cheapest(
+    p: &[u8],
+    places: &[u8; 2048],
+    ends: &[u16; 257],
+    arcs: &[u64; 2048],
+    fixings: Fixings,
+    costs: &[u64; 257],
+    nearest: usize,
+    u: usize,
+) -> Way
+    requires { ⌜ Lent (now p) (now places) (now ends) (now arcs) × ((j : ℕ) → getD (now costs) j 0 ≤ costLimit) × (1 ≤ u) × (u ≤ planOf (now p) .junctions) × (any (isRequired (subproblemIn (now p) fixings)) (leaving (planOf (now p)) u) ≡ false) ⌝ }
+    ensures { λ v. ⌜ v ≡ wayBy (subproblemIn (now (p .entry)) fixings) (now (costs .entry)) nearest noWay (leaving (planOf (now (p .entry))) u) ⌝ }
+{
+    let mut best = NO_WAY;
+    let mut belt = BeltId(0);
+    let end = ends[u] as usize;
+    let mut i = ends[u - 1] as usize;
+    while i < end {
+        let arc = arcs[i];
+        let to = adjacency::head(arc);
+        let over = adjacency::cost(arc) + costs[to];
+        if over < best {
+            if is_open(places, fixings.forbidden, nearest, arc) {
+                best = over;
+                belt = adjacency::name(arc);
+            }
+        }
+        i += 1;
+    }
+    Way {
+        cost: best,
+        belt: belt,
+        required: false,
+    }
+}
+
+// The cheapest way on from junction u. `exits` tells whether a required belt leaves it.
+fn way_from(
+    p: &[u8],
+    places: &[u8; 2048],
+    ends: &[u16; 257],
+    arcs: &[u64; 2048],
+    exits: &[u64; 257],
+    fixings: Fixings,
+    costs: &[u64; 257],
+    nearest: usize,
+    u: usize,
+) -> Way
+    requires { ⌜ Lent (now p) (now places) (now ends) (now arcs) × (now exits ≡ exitsOf (now p)) × ((j : ℕ) → getD (now costs) j 0 ≤ costLimit) × (1 ≤ u) × (u ≤ planOf (now p) .junctions) ⌝ }
+    ensures { λ v. ⌜ v ≡ wayBy (subproblemIn (now (p .entry)) fixings) (now (costs .entry)) nearest noWay (leaving (planOf (now (p .entry))) u) ⌝ }
+{
+    if exits[u] & fixings.required == 0 {
+        return cheapest(p, places, ends, arcs, fixings, costs, nearest, u);
+    }
+    way_by(p, places, ends, arcs, fixings, costs, nearest, u)
+}
+
 // The pass backwards. `nearest` is the nearest junction above u that a required belt leaves, or t.
-fn ways_to(p: &[u8], places: &[u8; 2048], fixings: Fixings, s: usize, t: usize) -> Ways
-    requires { ⌜ Accepted (now p) × (now places ≡ namedPlaces (now p)) × (1 ≤ s) × (s ≤ planOf (now p) .junctions) × (t ≤ planOf (now p) .junctions) ⌝ }
+fn ways_to(
+    p: &[u8],
+    places: &[u8; 2048],
+    ends: &[u16; 257],
+    arcs: &[u64; 2048],
+    exits: &[u64; 257],
+    fixings: Fixings,
+    s: usize,
+    t: usize,
+) -> Ways
+    requires { ⌜ Lent (now p) (now places) (now ends) (now arcs) × (now exits ≡ exitsOf (now p)) × (1 ≤ s) × (s ≤ planOf (now p) .junctions) × (t ≤ planOf (now p) .junctions) ⌝ }
     ensures { λ v. ⌜ (v .cost ≡ wayCost (wayIn (now (p .entry)) fixings t s)) × Guides (now (p .entry)) fixings t s (v .firsts) ⌝ }
 {
     let mut costs = [NO_WAY; 257];
@@ -148,7 +230,7 @@ fn ways_to(p: &[u8], places: &[u8; 2048], fixings: Fixings, s: usize, t: usize) 
     let mut u = t;
     while s < u {
         u -= 1;
-        let way = way_from(p, places, fixings, &costs, nearest, u);
+        let way = way_from(p, places, ends, arcs, exits, fixings, &costs, nearest, u);
         let belt = way.belt;
         costs[u] = way.cost;
         firsts[u] = belt;
@@ -162,27 +244,19 @@ fn ways_to(p: &[u8], places: &[u8; 2048], fixings: Fixings, s: usize, t: usize) 
     }
 }
 
-// The walk forward, from s where there is a way on. The route is the relaxed one if it has every required belt.
-fn walk(p: &[u8], places: &[u8; 2048], fixings: Fixings, ways: Ways, s: usize, t: usize) -> Relaxed
-    requires { ⌜ Accepted (now p) × (now places ≡ namedPlaces (now p)) × OfNamed (now p) (fixings .required) × (1 ≤ s) × (t ≤ planOf (now p) .junctions) × (ways .cost ≡ costLimit → ⊥) × (ways .cost ≡ wayCost (wayIn (now p) fixings t s)) × Guides (now p) fixings t s (ways .firsts) ⌝ }
-    ensures { λ v. ⌜ v ≡ relaxedAs (havingAll (subproblemIn (now (p .entry)) fixings) (wayIn (now (p .entry)) fixings t s)) ⌝ }
+// The walk forward, from s where there is a way on: the route that it is.
+fn walk(p: &[u8], fixings: Fixings, ways: Ways, s: usize, t: usize) -> Relaxed
+    requires { ⌜ Accepted (now p) × (1 ≤ s) × (t ≤ planOf (now p) .junctions) × (ways .cost ≡ costLimit → ⊥) × (ways .cost ≡ wayCost (wayIn (now p) fixings t s)) × Guides (now p) fixings t s (ways .firsts) ⌝ }
+    ensures { λ v. ⌜ v ≡ relaxedAs (wayIn (now (p .entry)) fixings t s) ⌝ }
 {
     let mut belts = [BeltId(0); 255];
     let mut count = 0;
-    let mut seen = 0u64;
     let mut at = s;
     while at != t {
         let belt = ways.firsts[at];
-        let place = named::place_of(places, belt);
-        if masks::has(fixings.required, place) {
-            seen = masks::with(seen, place);
-        }
         belts[count] = belt;
         count += 1;
         at = read::leads_to(p, belt);
-    }
-    if seen != fixings.required {
-        return nothing();
     }
     Relaxed {
         found: true,
@@ -192,6 +266,20 @@ fn walk(p: &[u8], places: &[u8; 2048], fixings: Fixings, ways: Ways, s: usize, t
         },
         cost: ways.cost,
     }
+}
+
+// The named belts that leave some junction from s on and before t, as a mask.
+fn inside(exits: &[u64; 257], s: usize, t: usize) -> u64
+    requires { ⌜ t ≤ 257 ⌝ }
+    ensures { λ v. ⌜ v ≡ joinedIn (now (exits .entry)) 0 (upto s t) ⌝ }
+{
+    let mut mask = 0u64;
+    let mut u = s;
+    while u < t {
+        mask = mask | exits[u];
+        u += 1;
+    }
+    mask
 }
 
 // No relaxed route.
@@ -208,16 +296,59 @@ fn nothing() -> Relaxed
     }
 }
 
-// The relaxed route from s to t of a subproblem. `places` are those of the plan's named belts (plan::named::named_places).
-pub fn relaxed_route(p: &[u8], places: &[u8; 2048], trip: Trip, fixings: Fixings) -> Relaxed
-    requires { ⌜ Accepted (now p) × (now places ≡ namedPlaces (now p)) × (wrongEnds (planOf (now p)) (trip .s) (trip .t) ≡ false) × OfNamed (now p) (fixings .required) ⌝ }
+// The relaxed route from s to t of a subproblem. What is lent is made once for all subproblems of a plan: the places of its named belts
+// (plan::named::named_places), its belts side by side (plan::adjacency::decode), and the named belts that leave each junction (`exits`).
+pub fn relaxed_route(
+    p: &[u8],
+    places: &[u8; 2048],
+    ends: &[u16; 257],
+    arcs: &[u64; 2048],
+    exits: &[u64; 257],
+    trip: Trip,
+    fixings: Fixings,
+) -> Relaxed
+    requires { ⌜ Accepted (now p) × (now places ≡ namedPlaces (now p)) × (now ends ≡ endsOf (planOf (now p))) × (now arcs ≡ arcsOf (planOf (now p))) × (now exits ≡ exitsOf (now p)) × (wrongEnds (planOf (now p)) (trip .s) (trip .t) ≡ false) × OfNamed (now p) (fixings .required) ⌝ }
     ensures { λ v. ⌜ v ≡ relaxedAs (relaxed (planOf (now (p .entry))) (trip .s) (trip .t) (subproblemIn (now (p .entry)) fixings)) ⌝ }
 {
     let s = trip.s as usize;
     let t = trip.t as usize;
-    let ways = ways_to(p, places, fixings, s, t);
+    if fixings.required & inside(exits, s, t) != fixings.required {
+        return nothing();
+    }
+    let ways = ways_to(p, places, ends, arcs, exits, fixings, s, t);
     if ways.cost == NO_WAY {
         return nothing();
     }
-    walk(p, places, fixings, ways, s, t)
+    walk(p, fixings, ways, s, t)
+}
+
+// The named belts that leave junction u, as a mask.
+fn exits_at(p: &[u8], places: &[u8; 2048], ends: &[u16; 257], arcs: &[u64; 2048], u: usize) -> u64
+    requires { ⌜ Lent (now p) (now places) (now ends) (now arcs) × (1 ≤ u) × (u ≤ planOf (now p) .junctions) ⌝ }
+    ensures { λ v. ⌜ v ≡ gatheredIn (namedPlaces (now (p .entry))) 0 (namesOf (leaving (planOf (now (p .entry))) u)) ⌝ }
+{
+    let mut mask = 0u64;
+    let end = ends[u] as usize;
+    let mut i = ends[u - 1] as usize;
+    while i < end {
+        let belt = adjacency::name(arcs[i]);
+        mask = masks::with(mask, named::place_of(places, belt));
+        i += 1;
+    }
+    mask
+}
+
+// The named belts that leave each junction of a plan, as masks. `places`, `ends` and `arcs` are those of the plan, as for `relaxed_route`.
+pub fn exits(p: &[u8], places: &[u8; 2048], ends: &[u16; 257], arcs: &[u64; 2048]) -> [u64; 257]
+    requires { ⌜ Accepted (now p) × (now places ≡ namedPlaces (now p)) × (now ends ≡ endsOf (planOf (now p))) × (now arcs ≡ arcsOf (planOf (now p))) ⌝ }
+    ensures { λ v. ⌜ v ≡ exitsOf (now (p .entry)) ⌝ }
+{
+    let last = read::junctions(p);
+    let mut exits = [0u64; 257];
+    let mut u = 1;
+    while u <= last {
+        exits[u] = exits_at(p, places, ends, arcs, u);
+        u += 1;
+    }
+    exits
 }

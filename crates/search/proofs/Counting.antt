@@ -21,41 +21,39 @@
 -- One idea serves all three loops: what is done, with what is left, is the whole. Assumes nothing.
 use mathlib.Core.Path.{_≡_, refl, sym, _∙_, ap, subst}
 use mathlib.Core.Logic.{_⊎_, inl, inr}
-use mathlib.Core.Bool.{Bool, true, false, _&&_, _||_, or-false, or-assoc}
-use Prim.Native.Nat.{ℕ, zero, suc, _+_, _-_, _%_, _^_, _≤_, _<_}
+use mathlib.Core.Bool.{Bool, true, false, _&&_, _||_}
+use Prim.Native.Nat.{ℕ, zero, suc, _+_, _-_, _≤_, _<_}
 use mathlib.Core.List.{List, [], _∷_, _++_, map, List·Memᴰ, List·Memᴰ·head, List·Memᴰ·tail, List·Memᴰ·not-nil, List·Memᴰ·cases-cons, Memᴰ·cast}
 use native.Mathlib.Omega.{arith}
-use native.Mathlib.Nat.{zero-div}
 use lib.ListN.{length, getD, set, replicate, length-set, length-map, length-replicate, length-append, getD-replicate, List·getD-append, List·getD-eq-default}
 use lib.Seq.{getD-set-same, getD-set-other, getD-append-add, ext-getD}
 use lib.Dec.{eqb, ltb}
-use borrow.Author.Tests.{eqb-true, eqb-false, ne-eqb, lt-ltb, le-ltb, ltb-true, ltb-false}
+use borrow.Author.Tests.{eqb-true, eqb-false, lt-ltb, le-ltb, ltb-true, ltb-false}
 use Rattle.plan.specs.declared.read.BeltId.{BeltId}
 use Rattle.plan.specs.declared.read.ModeId.{ModeId}
 use Rattle.plan.specs.declared.read.Literal.{Literal}
 use Rattle.plan.specs.declared.read.Literal.the-variants.{OfBelt, OfMode}
-use Rattle.plan.specs.declared.named.Place.{Place}
 use Rattle.plan.specs.declared.named.Place.the-variants.{At}
 use Rattle.plan.specs.Lists.{counted, count, mem, run}
 use Rattle.plan.specs.Records.{records, chainOf}
-use Rattle.plan.specs.Plan.{planOf, literalAt, ruleAt, named, inRule, placeBy, placeOf, placesOf, placeIn}
+use Rattle.plan.specs.Plan.{planOf, literalAt, ruleAt, named, inRule, placeOf, placesOf, placeIn}
 use Rattle.plan.specs.Reading.{Accepted, IsRule, IsLiteral, firstRule, nextRule, firstLiteral, nextLiteral, rulesFrom, literalsFrom}
-use Rattle.plan.proofs.Lists.{test, never, alike, in-map, length-run, getD-run, map-run, in-mem, mem-in}
+use Rattle.plan.proofs.Lists.{test, alike, in-map, length-run, getD-run, map-run}
 use Rattle.plan.proofs.Rising.{Rises}
 use Rattle.plan.proofs.Links.{Linked}
 use Rattle.plan.proofs.Passed.{linked}
 use Rattle.plan.proofs.Chains.{rule-reached}
 use Rattle.plan.proofs.Naming.{named-rises}
-use Rattle.plan.proofs.Places.{at-place, place-at, place-in, place-is}
+use Rattle.plan.proofs.Places.{at-place, place-at, place-in}
 use Rattle.plan.proofs.Accepted.{accepted-passed}
 use Rattle.plan.proofs.Limits.{accepted-limits}
 use Rattle.plan.proofs.Reading.{rules-from, rules-end, rules-next, first-rule-is, next-rule-is, belt-low, literal-belt, named-few}
 use Rattle.plan.proofs.Reading.{literals-end, literals-next, first-literal-is, next-literal-is}
-use Rattle.route.specs.Values.{inMask, namedPlaces, withPlace}
-use Rattle.route.proofs.Fixed.{with-belt}
+use Rattle.route.specs.Values.{inMask, namedPlaces, withPlace, gatheredIn}
+use Rattle.route.proofs.Fixed.{gathered-from}
 use Rattle.search.specs.Branching.{ruleCount}
 use Rattle.search.specs.Values.{countsOf}
-use Rattle.search.specs.Inner.{beltsIn, gatheredIn, withRule}
+use Rattle.search.specs.Inner.{beltsIn, withRule}
 
 -- ---- masks of belts
 
@@ -66,32 +64,10 @@ module _ {ns : List ℕ} (rises : Rises ns) (k : ℕ) (l : k < length ns) where
       let same : getD ns k 0 ≡ e = sym (ap (λ (j : ℕ). getD ns j 0) q) ∙ at-place e rises m .0 in
       (Memᴰ·cast same m, ap (placeOf ns) same ∙ place-in e ns m ∙ ap (λ (j : ℕ). At j) q)
 
-  module _ {places : List ℕ} (all : places ≡ placesOf ns) where
-    -- with one belt more the mask has that belt too
-    with-one : (m x : ℕ) → x < 2048 → inMask (withPlace m (placeIn places x)) (At k) ≡ (inMask m (At k) || eqb (getD ns k 0) x)
-    with-one m x low =
-        ap (λ (q : Place). inMask (withPlace m q) (At k)) (ap (λ (ps : List ℕ). placeIn ps x) all ∙ place-is ns x low) ∙ go (test (mem x ns))
-      where
-        go : (mem x ns ≡ true) ⊎ (mem x ns ≡ false) → inMask (withPlace m (placeOf ns x)) (At k) ≡ (inMask m (At k) || eqb (getD ns k 0) x)
-        go (inl t) =
-            subst (λ (q : Place). inMask (withPlace m (placeOf ns x)) q ≡ (inMask m q || eqb (getD ns k 0) x)) (stands .1)
-            (with-belt rises m x (getD ns k 0) (mem-in ns t) (stands .0))
-        go (inr t) =
-            let apart : eqb (getD ns k 0) x ≡ false = ne-eqb (getD ns k 0) x (λ q. never (in-mem ns (Memᴰ·cast (sym q) (stands .0))) t) in
-            ap (λ (s : Bool). inMask (withPlace m (placeBy s (count (λ (n : ℕ). ltb n x) ns))) (At k)) t
-            ∙ sym (ap (λ (s : Bool). inMask m (At k) || s) apart ∙ or-false (inMask m (At k)))
-
-    gathered-has : (m : ℕ) (es : List ℕ) → ((e : ℕ) → List·Memᴰ e es → e < 2048)
-        → inMask (gatheredIn places m es) (At k) ≡ (inMask m (At k) || mem (getD ns k 0) es)
-    gathered-has m [] low = sym (or-false (inMask m (At k)))
-    gathered-has m (x ∷ es) low =
-        gathered-has (withPlace m (placeIn places x)) es (λ e i. low e (List·Memᴰ·tail i))
-        ∙ ap (λ (t : Bool). t || mem (getD ns k 0) es) (with-one m x (low x (List·Memᴰ·head refl)))
-        ∙ or-assoc (inMask m (At k)) (eqb (getD ns k 0) x) (mem (getD ns k 0) es)
-
-    pub gathered-at : (es : List ℕ) → ((e : ℕ) → List·Memᴰ e es → e < 2048) → inMask (gatheredIn places 0 es) (At k) ≡ mem (getD ns k 0) es
-    gathered-at es low =
-        gathered-has 0 es low ∙ ap (λ (n : ℕ). eqb (n % 2) 1 || mem (getD ns k 0) es) (zero-div (2 ^ k))
+  pub gathered-at : {places : List ℕ} → places ≡ placesOf ns → (es : List ℕ) → ((e : ℕ) → List·Memᴰ e es → e < 2048)
+      → inMask (gatheredIn places 0 es) (At k) ≡ mem (getD ns k 0) es
+  gathered-at {places} all es low =
+      sym (ap (inMask (gatheredIn places 0 es)) (stands .1)) ∙ gathered-from rises all es low (getD ns k 0) (stands .0)
 
 -- ---- the belts in a rule
 

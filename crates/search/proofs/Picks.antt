@@ -41,13 +41,13 @@ use Rattle.plan.proofs.Reading.{belt-low}
 use Rattle.route.specs.declared.path.Route.{Route}
 use Rattle.route.specs.declared.relax.Fixings.{Fixings}
 use Rattle.route.specs.Permission.{passes, find, orElse, otherwise}
-use Rattle.route.specs.Values.{idsOf, Known, routeIn, inMask, LowPlace, fixedIn, subproblemIn, namedPlaces}
+use Rattle.route.specs.Values.{idsOf, Known, routeIn, inMask, LowPlace, fixedIn, subproblemIn, namedPlaces, gatheredIn}
 use Rattle.route.proofs.Bits.{or-set, without-set, lowest-none, lowest-set}
 use Rattle.route.proofs.ByName.{passes-names, known-route}
 use Rattle.route.proofs.Fixed.{fixed-mem, place-low, looked-up}
 use Rattle.search.specs.Branching.{isFixed, unfixed, ruleCount, higher, highest, pickOf}
 use Rattle.search.specs.Values.{countsOf, pickedPlace}
-use Rattle.search.specs.Inner.{Low, gatheredIn, unfixedAt, unfixedPlaces, atPlace, countAt}
+use Rattle.search.specs.Inner.{Low, unfixedAt, unfixedPlaces, atPlace, countAt}
 use Rattle.search.proofs.Counting.{stands, gathered-at, counts-at}
 
 -- ---- the first place that is kept and passes

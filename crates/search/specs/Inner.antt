@@ -3,8 +3,6 @@
 -- Picks, by the places of the named belts:
 --   Low places route      the belts of a Route can be looked up in the array of places, and have bits in a mask
 --   beltsIn rule          the belts in a rule, as often as they are named
---   gatheredIn places m es
---                         the mask m with the places of the belts es, as the array of places has them
 --   withRule xs n m       the counts xs, one more for each of the first n places that the mask m has
 --   unfixedAt f k         the masks f do not fix the belt at place k; unfixedPlaces f n: the first n places where that is so
 --   atPlace o             a place that was looked for, as the code has it
@@ -57,10 +55,6 @@ abbrev pub beltsIn : List Literal → List ℕ
 beltsIn [] = []
 beltsIn (OfBelt e wanted ∷ ls) = e .0 ∷ beltsIn ls
 beltsIn (OfMode m wanted ∷ ls) = beltsIn ls
-
-abbrev pub gatheredIn : List ℕ → ℕ → List ℕ → ℕ
-gatheredIn places m [] = m
-gatheredIn places m (e ∷ es) = gatheredIn places (withPlace m (placeIn places e)) es
 
 abbrev pub withRule : List ℕ → ℕ → ℕ → List ℕ
 withRule xs n m = map (λ (k : ℕ). counted (ltb k n && inMask m (At k)) (getD xs k 0)) (upto 0 48)

@@ -5,11 +5,13 @@ use crate::query::Query;
 use crate::run;
 use crate::state::Ending;
 use crate::state::Search;
+use plan::adjacency;
 use plan::check::Verdict;
 use plan::named;
 use route::modes;
 use route::modes::Lowest;
 use route::path;
+use route::relax;
 use route::sheet;
 use route::sheet::Sheet;
 ghost use mathlib.Core.Path.{_≡_};
@@ -105,8 +107,11 @@ fn find_route(p: &[u8], query: Query, out: &mut [u8]) -> Answer
     ensures { λ v. ⌜ Told (replyOf v) (now (out .entry)) (now (out .exit)) (unlessRefused 0 (requestOf (now (p .entry)) query (now (out .entry)))) ⌝ }
 {
     let places = named::named_places(p);
+    let mut arcs = [0u64; 2048];
+    let ends = adjacency::decode(p, &mut arcs);
+    let exits = relax::exits(p, &places, &ends, &arcs);
     let counts = pick::rule_counts(p, &places);
-    let stepped = run::run(p, &places, counts, query);
+    let stepped = run::run(p, &places, &ends, &arcs, &exits, counts, query);
     let search = stepped.search;
     let ending = stepped.ending;
     match ending {

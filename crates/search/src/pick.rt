@@ -15,10 +15,10 @@ ghost use Rattle.plan.specs.Plan.{planOf, named, ruleAt};
 ghost use Rattle.plan.specs.Reading.{Accepted, IsRule};
 ghost use Rattle.plan.specs.declared.named.Place.the-variants.{At};
 ghost use Rattle.route.specs.Permission.{find, otherwise};
-ghost use Rattle.route.specs.Values.{idsOf, Known, routeIn, inMask, subproblemIn, namedPlaces};
+ghost use Rattle.route.specs.Values.{idsOf, Known, routeIn, inMask, subproblemIn, namedPlaces, gatheredIn};
 ghost use Rattle.search.specs.Branching.{highest, pickOf};
 ghost use Rattle.search.specs.Values.{countsOf, pickedPlace};
-ghost use Rattle.search.specs.Inner.{Low, beltsIn, gatheredIn, withRule, unfixedPlaces, atPlace, countAt};
+ghost use Rattle.search.specs.Inner.{Low, beltsIn, withRule, unfixedPlaces, atPlace, countAt};
 
 // What the picks go by beside a subproblem and its relaxed route: how many named belts there are, and in how many rules each of them is.
 pub struct Counts {

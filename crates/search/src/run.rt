@@ -9,10 +9,18 @@ ghost use Rattle.search.specs.Search.{run};
 ghost use Rattle.search.specs.Answers.{problemIn};
 ghost use Rattle.search.specs.Values.{turnIn, Valid, Ready};
 
-// Steps until one ends. `places` and `counts` are those of the plan (plan::named::named_places, pick::rule_counts). What a step hands back
-// stays whole: to take the search out of it would copy it.
-pub fn run(p: &[u8], places: &[u8; 2048], counts: Counts, query: Query) -> Stepped
-    requires { ⌜ Ready (now p) (now places) counts query ⌝ }
+// Steps until one ends. What is lent is that of the plan, as for a step. What a step hands back stays whole: to take the search out of it would
+// copy it.
+pub fn run(
+    p: &[u8],
+    places: &[u8; 2048],
+    ends: &[u16; 257],
+    arcs: &[u64; 2048],
+    exits: &[u64; 257],
+    counts: Counts,
+    query: Query,
+) -> Stepped
+    requires { ⌜ Ready (now p) (now places) (now ends) (now arcs) (now exits) counts query ⌝ }
     ensures { λ v. ⌜ (turnIn (now (p .entry)) v ≡ run (problemIn (now (p .entry)) query) (query .budget)) × Valid (now (p .entry)) (v .search) ⌝ }
 {
     let mut stepped = Stepped {
@@ -23,7 +31,9 @@ pub fn run(p: &[u8], places: &[u8; 2048], counts: Counts, query: Query) -> Stepp
         let ending = stepped.ending;
         match ending {
             Ending::GoesOn => {
-                stepped = stepped.search.step(p, places, counts, query);
+                stepped = stepped
+                    .search
+                    .step(p, places, ends, arcs, exits, counts, query);
             }
             Ending::Found => return stepped,
             Ending::Nothing => return stepped,

@@ -17,8 +17,8 @@ ghost use mathlib.Core.Bool.{true};
 ghost use Prim.Native.Nat.{_≤_, _<_};
 ghost use Rattle.plan.specs.declared.named.Place.the-variants.{At};
 ghost use Rattle.plan.specs.Reading.{Accepted};
-ghost use Rattle.route.specs.Values.{Known};
-ghost use Rattle.search.specs.Values.{turnIn, Valid, firstSearch, noFixings, Ready, stepIn};
+ghost use Rattle.route.specs.Values.{Known, namedPlaces};
+ghost use Rattle.search.specs.Values.{countsOf, turnIn, Valid, firstSearch, noFixings, Ready, stepIn};
 ghost use Rattle.search.specs.Inner.{endedAs, childAt, betterIn, judgedIn};
 
 // A search: the subproblems that wait are the first `count` of the array, the newest last; how many have been opened; and the best route
@@ -123,7 +123,7 @@ fn judge(
     route: Route,
     better: bool,
 ) -> Judged
-    requires { ⌜ Ready (now p) (now places) counts query × (better ≡ true → Known (now p) route) ⌝ }
+    requires { ⌜ Accepted (now p) × (now places ≡ namedPlaces (now p)) × (counts ≡ countsOf (now p)) × (better ≡ true → Known (now p) route) ⌝ }
     ensures { λ v. ⌜ v ≡ judgedIn (now (p .entry)) query fixings route better ⌝ }
 {
     if !better {
@@ -160,10 +160,20 @@ fn child(fixings: Fixings, k: usize, required: bool) -> Fixings
 }
 
 impl Search {
-    // One step. `places` and `counts` are those of the plan (plan::named::named_places, pick::rule_counts). The search is changed here alone:
-    // each function that it were handed on to would copy it.
-    pub fn step(mut self, p: &[u8], places: &[u8; 2048], counts: Counts, query: Query) -> Stepped
-        requires { ⌜ Ready (now p) (now places) counts query × Valid (now p) self × (self .opened ≤ query .budget) ⌝ }
+    // One step. What is lent is made once for all steps: the places of the plan's named belts (plan::named::named_places), its belts side by side
+    // (plan::adjacency::decode), the named belts that leave each junction (route::relax::exits) and the counts (pick::rule_counts). The search is
+    // changed here alone: each function that it were handed on to would copy it.
+    pub fn step(
+        mut self,
+        p: &[u8],
+        places: &[u8; 2048],
+        ends: &[u16; 257],
+        arcs: &[u64; 2048],
+        exits: &[u64; 257],
+        counts: Counts,
+        query: Query,
+    ) -> Stepped
+        requires { ⌜ Ready (now p) (now places) (now ends) (now arcs) (now exits) counts query × Valid (now p) self × (self .opened ≤ query .budget) ⌝ }
         ensures { λ v. ⌜ (turnIn (now (p .entry)) v ≡ stepIn (now (p .entry)) query self) × Valid (now (p .entry)) (v .search) ⌝ }
     {
         if self.count == 0 || self.opened == query.budget {
@@ -178,7 +188,7 @@ impl Search {
         self.waiting[top] = none;
         self.count = top;
         self.opened += 1;
-        let relaxed = relax::relaxed_route(p, places, query.trip, fixings);
+        let relaxed = relax::relaxed_route(p, places, ends, arcs, exits, query.trip, fixings);
         let better = improves(p, relaxed, self.found, self.best);
         let judged = judge(p, places, counts, query, fixings, relaxed.route, better);
         match judged {

@@ -11,8 +11,8 @@ named-belts-requires c κs = search needs
 within-requires : tie.Need-within-requires
 within-requires c κs = search needs
 
-relaxed-route-requires : tie.Need-relaxed-route-requires
-relaxed-route-requires c κs =
+relaxed-over-requires : tie.Need-relaxed-over-requires
+relaxed-over-requires c κs =
     let named = c .before .before .before .before in
     let start = named .before .before in
     let low = c .before .within .ensures (c .if3 .taken) in
@@ -39,7 +39,7 @@ print-fixed-spec =
     (tie.spec
     named-belts-requires
     within-requires
-    relaxed-route-requires
+    relaxed-over-requires
     print-relaxed-requires
     returns
     slice-aggregate-write-all

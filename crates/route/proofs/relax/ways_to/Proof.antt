@@ -9,15 +9,15 @@ use Rattle.route.proofs.relax.ways_to.Statement.{statement}
 use Rattle.route.proofs.relax.ways_to.Tie as tie
 
 abbrev Inv-loop : tie.InvT-loop
-Inv-loop p places fixings s t costs₀ firsts₀ limit₀ u₀ costs firsts nearest u = Passed p (subproblemIn p fixings) t u nearest costs firsts
+Inv-loop p places ends arcs exits fixings s t costs₀ firsts₀ nearest₀ u₀ costs firsts nearest u = Passed p (subproblemIn p fixings) t u nearest costs firsts
 
 abbrev μ-loop : tie.MeasureT-loop
-μ-loop p places fixings s t costs₀ firsts₀ limit₀ u₀ costs firsts nearest u = u
+μ-loop p places ends arcs exits fixings s t costs₀ firsts₀ nearest₀ u₀ costs firsts nearest u = u
 
 -- s and t are junctions, and there are at most 256
 inside : (c : tie.Start Inv-loop μ-loop) → (c .args .s < 257) × (c .args .t < 257)
 inside c =
-    let few = plan-sizes (c .pre .0) .1 in
+    let few = plan-sizes (c .pre .0 .accepted) .1 in
     (omega (arith, c .pre .3), omega (arith, c .pre .4))
 
 -- that the plan is made of bytes is told by holding it
@@ -33,7 +33,7 @@ array-write-costs c = inside (c .before) .1
 loop-holds : tie.Need-loop-holds Inv-loop μ-loop
 loop-holds c =
     let start = c .before in
-    passed-start (start .pre .0) (bytes c) (subproblemIn (start .args .p .now) (start .args .fixings)) (start .args .t) (start .pre .4)
+    passed-start (start .pre .0 .accepted) (bytes c) (subproblemIn (start .args .p .now) (start .args .fixings)) (start .args .t) (start .pre .4)
 
 sub-u : tie.Need-sub-u Inv-loop μ-loop
 sub-u c = omega (arith, c .loop-test .taken)
@@ -71,7 +71,7 @@ loop-again c =
     let at = turn .before in
     let start = at .before .before in
     let x = subproblemIn (start .args .p .now) (start .args .fixings) in
-    passed-moved (start .pre .0) (bytes (at .before)) x (start .args .t) (start .pre .4)
+    passed-moved (start .pre .0 .accepted) (bytes (at .before)) x (start .args .t) (start .pre .4)
     (omega (arith, turn .loop-test .taken)) (at .loop .inv) (called .way-from .ensures) (c .if1 .taken)
 
 loop-less-2 : tie.Need-loop-less-2 Inv-loop μ-loop
@@ -84,14 +84,14 @@ loop-again-2 c =
     let at = turn .before in
     let start = at .before .before in
     let x = subproblemIn (start .args .p .now) (start .args .fixings) in
-    passed-kept (start .pre .0) (bytes (at .before)) x (start .args .t) (start .pre .4)
+    passed-kept (start .pre .0 .accepted) (bytes (at .before)) x (start .args .t) (start .pre .4)
     (omega (arith, turn .loop-test .taken)) (at .loop .inv) (called .way-from .ensures) (c .if1 .left)
 
-mul-t13 : tie.Need-mul-t13 Inv-loop μ-loop
-mul-t13 c = omega (arith, inside (c .before .before .before) .0)
+mul-t16 : tie.Need-mul-t16 Inv-loop μ-loop
+mul-t16 c = omega (arith, inside (c .before .before .before) .0)
 
-array-read-t25 : tie.Need-array-read-t25 Inv-loop μ-loop
-array-read-t25 c = inside (c .before .before .before) .0
+array-read-t28 : tie.Need-array-read-t28 Inv-loop μ-loop
+array-read-t28 c = inside (c .before .before .before) .0
 
 returns : tie.Need-returns Inv-loop μ-loop
 returns c =
@@ -119,6 +119,6 @@ ways-to-spec =
     loop-again
     loop-less-2
     loop-again-2
-    mul-t13
-    array-read-t25
+    mul-t16
+    array-read-t28
     returns)

@@ -10,6 +10,12 @@ use Rattle.search.proofs.entry.find_route.Tie as tie
 named-places-requires : tie.Need-named-places-requires
 named-places-requires c κs = search needs
 
+decode-requires : tie.Need-decode-requires
+decode-requires c κs = search needs
+
+exits-requires : tie.Need-exits-requires
+exits-requires c κs = search needs
+
 rule-counts-requires : tie.Need-rule-counts-requires
 rule-counts-requires c κs = search needs
 
@@ -19,10 +25,14 @@ run-requires c κs = search needs
 enum-told : tie.Need-enum-told
 enum-told c = search needs
 
+-- where the run began
+abbrev begun : tie.After-run → tie.Start
+begun c = c .before .before .before .before .before .before .before .before .before .before .before .before .before .before .before .before
+
 write-best-requires : tie.Need-write-best-requires
 write-best-requires c κs =
     let ran = c .before .before .before .before in
-    let start = ran .before .before .before .before .before .before .before in
+    let start = begun ran in
     (start .pre .0, ran .run .ensures .1, start .pre .2)
 
 enum-told-2 : tie.Need-enum-told-2
@@ -42,7 +52,7 @@ returns c =
     let wrote = c .before .before in
     let told = wrote .before .before in
     let ran = told .before .before .before in
-    let start = ran .before .before .before .before .before .before .before in
+    let start = begun ran in
     let out = start .args .out .now in
     subst (Told (replyOf (wrote .write-best .result)) out (wrote .write-best .last .1 .1 .0))
     (turn-found (start .args .p .now) (start .args .query) (ran .run .result) (ran .run .ensures .0) out (told .enum-told .given .1))
@@ -51,7 +61,7 @@ returns c =
 returns-2 : tie.Need-returns-2
 returns-2 c =
     let ran = c .before .before .before in
-    let start = ran .before .before .before .before .before .before .before in
+    let start = begun ran in
     let out = start .args .out .now in
     subst (Told (reply 100 (ran .run .result .search .opened) 0) out out)
     (turn-ended (start .args .p .now) (start .args .query) (ran .run .result) (ran .run .ensures .0) out Nothing (c .enum-told2 .given .1))
@@ -60,7 +70,7 @@ returns-2 c =
 returns-3 : tie.Need-returns-3
 returns-3 c =
     let ran = c .before .before .before in
-    let start = ran .before .before .before .before .before .before .before in
+    let start = begun ran in
     let out = start .args .out .now in
     subst (Told (reply 101 (ran .run .result .search .opened) 0) out out)
     (turn-ended (start .args .p .now) (start .args .query) (ran .run .result) (ran .run .ensures .0) out Spent (c .enum-told3 .given .1))
@@ -69,7 +79,7 @@ returns-3 c =
 returns-4 : tie.Need-returns-4
 returns-4 c =
     let ran = c .before .before .before in
-    let start = ran .before .before .before .before .before .before .before in
+    let start = begun ran in
     let out = start .args .out .now in
     subst (Told (reply 101 (ran .run .result .search .opened) 0) out out)
     (turn-ended (start .args .p .now) (start .args .query) (ran .run .result) (ran .run .ensures .0) out GoesOn (c .enum-told4 .given .1))
@@ -80,6 +90,8 @@ find-route-spec =
     tie.close
     (tie.spec
     named-places-requires
+    decode-requires
+    exits-requires
     rule-counts-requires
     run-requires
     enum-told

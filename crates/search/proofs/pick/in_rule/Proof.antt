@@ -7,9 +7,9 @@ use native.Mathlib.Omega.{arith}
 use borrow.Author.Needs.{needs}
 use lib.ListN.{length}
 use Rattle.plan.specs.Reading.{literalsFrom}
-use Rattle.route.specs.Values.{withPlace, LowPlace}
+use Rattle.route.specs.Values.{withPlace, LowPlace, gatheredIn}
 use Rattle.route.proofs.Fixed.{place-low, looked-up}
-use Rattle.search.specs.Inner.{gatheredIn, beltsIn}
+use Rattle.search.specs.Inner.{beltsIn}
 use Rattle.search.proofs.Counting.{Gathering, gathering-start, gathering-low, gathering-belt, gathering-mode, gathering-end, gathering-shorter}
 use Rattle.search.proofs.pick.in_rule.Statement.{statement}
 use Rattle.search.proofs.pick.in_rule.Tie as tie

@@ -6,8 +6,8 @@ use mathlib.Core.List.{head?}
 use borrow.Author.Needs.{needs}
 use Rattle.plan.specs.declared.named.Place.the-variants.{At}
 use Rattle.route.specs.Permission.{find}
-use Rattle.route.specs.Values.{idsOf, inMask}
-use Rattle.search.specs.Inner.{gatheredIn, unfixedPlaces, atPlace}
+use Rattle.route.specs.Values.{idsOf, inMask, gatheredIn}
+use Rattle.search.specs.Inner.{unfixedPlaces, atPlace}
 use Rattle.search.proofs.Picks.{else-at, else-none}
 use Rattle.search.proofs.pick.lowest_on.Statement.{statement}
 use Rattle.search.proofs.pick.lowest_on.Tie as tie

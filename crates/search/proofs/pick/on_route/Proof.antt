@@ -5,9 +5,8 @@ use native.Mathlib.Omega.{arith}
 use borrow.Author.Needs.{needs}
 use lib.ListN.{length, getD, drop}
 use Rattle.plan.specs.Plan.{beltId, placeIn}
-use Rattle.route.specs.Values.{idsOf, withPlace, LowPlace}
+use Rattle.route.specs.Values.{idsOf, withPlace, LowPlace, gatheredIn}
 use Rattle.route.proofs.Held.{places, ids-next, ids-end, ids-at}
-use Rattle.search.specs.Inner.{gatheredIn}
 use Rattle.search.proofs.pick.on_route.Statement.{statement}
 use Rattle.search.proofs.pick.on_route.Tie as tie
 

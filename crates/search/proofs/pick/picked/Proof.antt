@@ -9,10 +9,10 @@ use Rattle.plan.specs.declared.named.Place.the-variants.{At}
 use Rattle.plan.specs.Plan.{planOf, named}
 use Rattle.plan.proofs.Reading.{named-few}
 use Rattle.route.specs.Permission.{find, otherwise}
-use Rattle.route.specs.Values.{idsOf, routeIn, inMask}
+use Rattle.route.specs.Values.{idsOf, routeIn, inMask, gatheredIn}
 use Rattle.search.specs.declared.pick.Counts.{Counts}
 use Rattle.search.specs.Branching.{highest}
-use Rattle.search.specs.Inner.{gatheredIn, unfixedPlaces, atPlace, countAt}
+use Rattle.search.specs.Inner.{unfixedPlaces, atPlace, countAt}
 use Rattle.search.proofs.Picks.{picks-lowest, picks-busiest, picks-on, route-low, route-mask}
 use Rattle.search.proofs.pick.picked.Statement.{statement}
 use Rattle.search.proofs.pick.picked.Tie as tie

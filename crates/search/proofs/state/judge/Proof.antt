@@ -35,7 +35,7 @@ better : (c : tie.Else1) → c .before .before .args .better ≡ true
 better c = not-false (c .before .before .args .better) (c .if1 .left)
 
 lowest-setting-requires : tie.Need-lowest-setting-requires
-lowest-setting-requires c κs = let pre = c .before .before .pre in (pre .0 .accepted, pre .1 (better c))
+lowest-setting-requires c κs = let pre = c .before .before .pre in (pre .0, pre .3 (better c))
 
 -- so it goes by the setting
 by-setting : (c : tie.After-lowest-setting) (o : Option ℕ) → settingIn (c .lowest-setting .result) ≡ o
@@ -56,7 +56,7 @@ picked-requires : tie.Need-picked-requires
 picked-requires c κs =
     let some = c .before .before .before in
     let pre = some .before .before .pre in
-    (pre .0 .accepted, pre .0 .placed, pre .0 .counted, pre .1 (better some))
+    (pre .0, pre .1, pre .2, pre .3 (better some))
 
 enum-known-place : tie.Need-enum-known-place
 enum-known-place c = search needs

@@ -90,7 +90,7 @@ relaxed-route-requires : tie.Need-relaxed-route-requires
 relaxed-route-requires c κs =
     let goes = c .before .before in
     let ready = start goes .pre .0 in
-    (ready .accepted, ready .placed, ready .ends, taken goes .required)
+    (ready .accepted, ready .placed, ready .ended, ready .listed, ready .left, ready .junctions, taken goes .required)
 
 -- a relaxed route that is there is of belts of the plan
 known : (c : tie.After-relaxed-route) → c .relaxed-route .result .found ≡ true
@@ -99,7 +99,7 @@ known c h =
     let from = c .before .before .before in
     let ready = start from .pre .0 in
     let trip = start from .args .query .trip in
-    answered (ready .accepted) (λ i. from .before .before .before .shared-slice-known .given i .fits) (trip .s) (trip .t) (ready .ends)
+    answered (ready .accepted) (λ i. from .before .before .before .shared-slice-known .given i .fits) (trip .s) (trip .t) (ready .junctions)
     (subproblemIn (start from .args .p .now) (newestOf (now from))) (c .relaxed-route .result) (c .relaxed-route .ensures) h .0
 
 improves-requires : tie.Need-improves-requires
@@ -110,7 +110,8 @@ improves-requires c κs =
 judge-requires : tie.Need-judge-requires
 judge-requires c κs =
     let asked = c .before .before in
-    (start (asked .before .before .before) .pre .0, λ h. known asked (both _ _ (sym (c .improves .ensures) ∙ h) .0))
+    let ready = start (asked .before .before .before) .pre .0 in
+    (ready .accepted, ready .placed, ready .counted, λ h. known asked (both _ _ (sym (c .improves .ensures) ∙ h) .0))
 
 enum-told : tie.Need-enum-told
 enum-told c = search needs
@@ -149,7 +150,7 @@ settles c =
     let is = c .judge .ensures ∙ ap (judgedIn (args .p .now) (args .query) one (route c)) (c .before .improves .ensures) in
     subst (Settles (args .p .now) (popped (now from)) one (args .query) (route c) state) (sym is)
     (judged-settles (ready .accepted) (λ i. from .before .before .before .shared-slice-known .given i .fits) (popped (now from)) size one (taken from)
-    (args .query) (ready .ends) (asked .result) (asked .ensures))
+    (args .query) (ready .junctions) (asked .result) (asked .ensures))
 
 done : (c : tie.After-judge) (w : Search) → w ≡ settled c (c .judge .result)
     → let args = start (goes c) .args in

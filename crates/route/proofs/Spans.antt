@@ -1,0 +1,137 @@
+-- The belts of a junction, one by one, where belts stand side by side.
+--
+--   Arc b a e              the number a is the arc of belt e of the plan b
+--   arc-place              the place of its belt is looked up by the arc's name, and has a bit in a mask
+--   arc-low                where it leads, and its name, are low
+--   Span b arcs i n es     the arcs from place i on and before place n are the belts es of the plan b
+--   Left b arcs i n P      these belts pass P: what a loop over them keeps
+--   end-low                the places where the arcs of junctions end are low
+--   left-start             the arcs of a junction are the belts that leave it
+--   Next b arcs i n P      one is left, the belt of the arc at place i, and the others follow it
+--   left-next, left-end    where place n is not reached one is left; where it is reached none is
+--
+-- Assumes nothing.
+use mathlib.Core.Path.{_≡_, refl, sym, _∙_, ap, subst}
+use Prim.Native.Nat.{ℕ, zero, suc, _+_, _-_, _≤_, _<_}
+use mathlib.Core.List.{List, [], _∷_, map, List·Memᴰ, List·Memᴰ·head, List·Memᴰ·tail}
+use native.Mathlib.Omega.{arith}
+use native.Mathlib.Numerals.{add-one}
+use lib.ListN.{length, getD, take, drop}
+use lib.Seq.{take-nil, drop-nil}
+use Rattle.plan.specs.Plan.{Belt, planOf, leaving, named, placeOf, placeIn}
+use Rattle.plan.specs.Adjacency.{arcOf, arcCost, arcHead, arcName, inOrder}
+use Rattle.plan.specs.Reading.{Accepted, Bytes}
+use Rattle.plan.proofs.Reading.{plan-sizes, leaving-in, belt-of, belt-low, belt-ends}
+use Rattle.route.specs.Values.{namedPlaces, LowPlace}
+use Rattle.route.specs.Inner.{Lent}
+use Rattle.plan.proofs.Arcs.{arc-parts, order-few, order-next, ends-at, arcs-of}
+use Rattle.route.proofs.Fixed.{place-low, looked-up}
+
+-- ---- one arc
+
+pub record Arc (b : List ℕ) (a : ℕ) (e : Belt) : Type 0 where
+  pub belt : List·Memᴰ e (planOf b .belts)
+  pub costs : arcCost a ≡ e .cost
+  pub leads : arcHead a ≡ e .leads
+  pub names : arcName a ≡ e .name
+
+module _ {b : List ℕ} (ok : Accepted b) {a : ℕ} {e : Belt} (arc : Arc b a e) where
+  -- where it leads, and its name, are low
+  pub arc-low : (arcHead a < 257) × (arcName a < 2048)
+  arc-low =
+      let top = belt-ends ok e (arc .belt) .2 in
+      let few = plan-sizes ok .1 in
+      let name = belt-low ok (e .name) (belt-of ok e (arc .belt) .0) .2 in
+      (omega (arith, arc .leads), omega (arith, arc .names))
+
+  pub arc-place : {places : List ℕ} → places ≡ namedPlaces b
+      → (placeIn places (arcName a) ≡ placeOf (named (planOf b)) (e .name)) × LowPlace (placeIn places (arcName a))
+  arc-place {places} all =
+      let there : placeIn places (arcName a) ≡ placeOf (named (planOf b)) (arcName a) = looked-up b (arcName a) all refl (arc-low .1) in (
+        there ∙ ap (placeOf (named (planOf b))) (arc .names),
+        subst LowPlace (sym there) (place-low ok (arcName a)),
+      )
+
+-- ---- arcs side by side
+
+pub record Span (b arcs : List ℕ) (i n : ℕ) (es : List Belt) : Type 0 where
+  reach : i + length es ≡ n
+  pub few : n < 2048
+  belts : (e : Belt) → List·Memᴰ e es → List·Memᴰ e (planOf b .belts)
+  stand : take (length es) (drop i arcs) ≡ map arcOf es
+
+pub record Left (b arcs : List ℕ) (i n : ℕ) (P : List Belt → Type 0) : Type 0 where
+  pub es : List Belt
+  pub span : Span b arcs i n es
+  pub passes : P es
+
+pub record Next (b arcs : List ℕ) (i n : ℕ) (P : List Belt → Type 0) : Type 0 where
+  pub belt : Belt
+  pub others : List Belt
+  pub arc : Arc b (getD arcs i 0) belt
+  pub passes : P (belt ∷ others)
+  pub span : Span b arcs (i + 1) n others
+
+-- the first of those that stand from place i on, and the next
+taken : (l : List ℕ) (i n y : ℕ) (ys : List ℕ) → take (suc n) (drop i l) ≡ y ∷ ys → (getD l i 0 ≡ y) × (take n (drop (suc i) l) ≡ ys)
+taken [] i n y ys h =
+    let none : _≡_ {A = List ℕ} [] (y ∷ ys) = sym (ap (take (suc n)) (drop-nil i) ∙ take-nil (suc n)) ∙ h in
+    let z : _≡_ {A = ℕ} 0 1 = cc in
+    absurd (omega arith)
+taken (x ∷ l) zero n y ys h = (cc, cc)
+taken (x ∷ l) (suc i) n y ys h = taken l i n y ys h
+
+module _ {b : List ℕ} (ok : Accepted b) where
+  end-at : {places ends arcs : List ℕ} → Lent b places ends arcs → (u : ℕ) → u ≤ planOf b .junctions → getD ends u 0 ≡ length (inOrder (planOf b) u)
+  end-at lent u l = ap (λ (ends : List ℕ). getD ends u 0) (lent .ended) ∙ ends-at ok u l
+
+  pub end-low : {places ends arcs : List ℕ} → Lent b places ends arcs → (u : ℕ) → u ≤ planOf b .junctions → getD ends u 0 < 2048
+  end-low lent u l = omega (arith, end-at lent u l, order-few ok u)
+
+  pub left-start : {places ends arcs : List ℕ} → Lent b places ends arcs → (u : ℕ) → 1 ≤ u → u ≤ planOf b .junctions
+      → {P : List Belt → Type 0} → P (leaving (planOf b) u) → Left b arcs (getD ends (u - 1) 0) (getD ends u 0) P
+  left-start {places} {ends} {arcs} lent zero low high h = absurd (omega arith)
+  left-start {places} {ends} {arcs} lent (suc v) low high h =
+      let back : suc v - 1 ≡ v = omega arith in
+      let before : getD ends (suc v - 1) 0 ≡ length (inOrder (planOf b) v) = ap (λ (j : ℕ). getD ends j 0) back ∙ end-at lent v (omega arith) in
+      let after : getD ends (suc v) 0 ≡ length (inOrder (planOf b) (suc v)) = end-at lent (suc v) high in
+      record {
+        es = leaving (planOf b) (suc v);
+        span = record {
+          reach = omega (arith, before, after, order-next ok v);
+          few = omega (arith, after, order-few ok (suc v));
+          belts = λ e m. leaving-in (planOf b) (suc v) e m .0;
+          stand = (λ i. take (length (leaving (planOf b) (suc v))) (drop (before i) (lent .listed i))) ∙ arcs-of ok v high;
+        };
+        passes = h;
+      }
+
+  module _ (bytes : Bytes b) {arcs : List ℕ} {i n : ℕ} {P : List Belt → Type 0} where
+    first : (es : List Belt) → Span b arcs i n es → P es → i < n → Next b arcs i n P
+    first [] s h l = absurd (omega (arith, s .reach))
+    first (e ∷ rest) s h l =
+        let (here, next) = taken arcs i (length rest) (arcOf e) (map arcOf rest) (s .stand) in
+        let m = s .belts e (List·Memᴰ·head refl) in
+        let (costs, leads, names) = arc-parts ok bytes e m in
+        record {
+          belt = e;
+          others = rest;
+          arc = record { belt = m; costs = ap arcCost here ∙ costs; leads = ap arcHead here ∙ leads; names = ap arcName here ∙ names };
+          passes = h;
+          span = record {
+            reach = omega (arith, s .reach);
+            few = s .few;
+            belts = λ f k. s .belts f (List·Memᴰ·tail k);
+            stand = ap (λ (k : ℕ). take (length rest) (drop k arcs)) (add-one i) ∙ next;
+          };
+        }
+
+    pub left-next : Left b arcs i n P → i < n → Next b arcs i n P
+    left-next x l = first (x .es) (x .span) (x .passes) l
+
+none-left : {b arcs : List ℕ} {i n : ℕ} (es : List Belt) → Span b arcs i n es → n ≤ i → es ≡ []
+none-left [] s l = refl
+none-left (e ∷ es) s l = absurd (omega (arith, s .reach))
+
+pub left-end : {b arcs : List ℕ} {i n : ℕ} {P : List Belt → Type 0} → Left b arcs i n P → n ≤ i → P []
+left-end {b} {arcs} {i} {n} {P} x l = subst P (none-left (x .es) (x .span) l) (x .passes)
