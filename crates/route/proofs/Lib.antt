@@ -12,6 +12,7 @@ pub mod Enforced
 pub mod Onward
 pub mod Looking
 pub mod Cheapest
+pub mod Required
 pub mod Ways
 pub mod Passed
 pub mod Fixed

@@ -17,7 +17,7 @@ use plan::read;
 use plan::read::BeltId;
 ghost use mathlib.Core.Path.{_≡_};
 ghost use Prim.Native.Nat.{ℕ, _≤_, _<_};
-ghost use mathlib.Core.Bool.{false, not, _||_};
+ghost use mathlib.Core.Bool.{true, false, not, _||_};
 ghost use mathlib.Core.Option.{none};
 ghost use lib.ListN.{getD};
 ghost use lib.Dec.{ltb};
@@ -76,40 +76,26 @@ fn way_over(costs: &[u64; 257], nearest: usize, arc: u64, forbidden: bool) -> u6
     adjacency::cost(arc) + on
 }
 
-// The way on from a junction once one more of its belts is looked at. A required belt drops the others, and a second required one itself;
-// of equals the first stays.
-fn preferred(way: Way, belt: BeltId, cost: u64, required: bool) -> Way
-    ensures { λ v. ⌜ v ≡ preferred way belt cost required ⌝ }
+// The way on from a junction once a required belt of it is looked at: it drops the others, and a second required one itself.
+fn preferred(way: Way, belt: BeltId, cost: u64) -> Way
+    ensures { λ v. ⌜ v ≡ preferred way belt cost true ⌝ }
 {
-    if required {
-        if way.required {
-            return Way {
-                cost: NO_WAY,
-                belt: belt,
-                required: true,
-            };
-        }
+    if way.required {
         return Way {
-            cost: cost,
+            cost: NO_WAY,
             belt: belt,
             required: true,
         };
     }
-    if way.required {
-        return way;
+    Way {
+        cost: cost,
+        belt: belt,
+        required: true,
     }
-    if cost < way.cost {
-        return Way {
-            cost: cost,
-            belt: belt,
-            required: false,
-        };
-    }
-    way
 }
 
-// The cheapest way on from junction u, each of its belts looked at in turn.
-fn way_by(
+// The cheapest way on from junction u where a required belt leaves it: no other is looked at.
+fn by_required(
     p: &[u8],
     places: &[u8; 2048],
     ends: &[u16; 257],
@@ -119,7 +105,7 @@ fn way_by(
     nearest: usize,
     u: usize,
 ) -> Way
-    requires { ⌜ Lent (now p) (now places) (now ends) (now arcs) × ((j : ℕ) → getD (now costs) j 0 ≤ costLimit) × (1 ≤ u) × (u ≤ planOf (now p) .junctions) ⌝ }
+    requires { ⌜ Lent (now p) (now places) (now ends) (now arcs) × ((j : ℕ) → getD (now costs) j 0 ≤ costLimit) × (1 ≤ u) × (u ≤ planOf (now p) .junctions) × (any (isRequired (subproblemIn (now p) fixings)) (leaving (planOf (now p)) u) ≡ true) ⌝ }
     ensures { λ v. ⌜ v ≡ wayBy (subproblemIn (now (p .entry)) fixings) (now (costs .entry)) nearest noWay (leaving (planOf (now (p .entry))) u) ⌝ }
 {
     let mut way = Way {
@@ -133,8 +119,10 @@ fn way_by(
         let arc = arcs[i];
         let belt = adjacency::name(arc);
         let place = named::place_of(places, belt);
-        let over = way_over(costs, nearest, arc, masks::has(fixings.forbidden, place));
-        way = preferred(way, belt, over, masks::has(fixings.required, place));
+        if masks::has(fixings.required, place) {
+            let over = way_over(costs, nearest, arc, masks::has(fixings.forbidden, place));
+            way = preferred(way, belt, over);
+        }
         i += 1;
     }
     way
@@ -151,7 +139,7 @@ fn is_open(places: &[u8; 2048], forbidden: u64, nearest: usize, arc: u64) -> boo
     !masks::has(forbidden, named::place_of(places, adjacency::name(arc)))
 }
 
-// The same where no required belt leaves u: a belt by which the way on gets no cheaper is not looked at further.
+// The same where no required belt leaves it: a belt by which the way on gets no cheaper is not looked at further.
 fn cheapest(
     p: &[u8],
     places: &[u8; 2048],
@@ -200,13 +188,13 @@ fn way_from(
     nearest: usize,
     u: usize,
 ) -> Way
-    requires { ⌜ Lent (now p) (now places) (now ends) (now arcs) × (now exits ≡ exitsOf (now p)) × ((j : ℕ) → getD (now costs) j 0 ≤ costLimit) × (1 ≤ u) × (u ≤ planOf (now p) .junctions) ⌝ }
+    requires { ⌜ Lent (now p) (now places) (now ends) (now arcs) × (now exits ≡ exitsOf (now p)) × ((j : ℕ) → getD (now costs) j 0 ≤ costLimit) × (1 ≤ u) × (u ≤ planOf (now p) .junctions) × OfNamed (now p) (fixings .required) ⌝ }
     ensures { λ v. ⌜ v ≡ wayBy (subproblemIn (now (p .entry)) fixings) (now (costs .entry)) nearest noWay (leaving (planOf (now (p .entry))) u) ⌝ }
 {
     if exits[u] & fixings.required == 0 {
         return cheapest(p, places, ends, arcs, fixings, costs, nearest, u);
     }
-    way_by(p, places, ends, arcs, fixings, costs, nearest, u)
+    by_required(p, places, ends, arcs, fixings, costs, nearest, u)
 }
 
 // The pass backwards. `nearest` is the nearest junction above u that a required belt leaves, or t.
@@ -220,7 +208,7 @@ fn ways_to(
     s: usize,
     t: usize,
 ) -> Ways
-    requires { ⌜ Lent (now p) (now places) (now ends) (now arcs) × (now exits ≡ exitsOf (now p)) × (1 ≤ s) × (s ≤ planOf (now p) .junctions) × (t ≤ planOf (now p) .junctions) ⌝ }
+    requires { ⌜ Lent (now p) (now places) (now ends) (now arcs) × (now exits ≡ exitsOf (now p)) × (1 ≤ s) × (s ≤ planOf (now p) .junctions) × (t ≤ planOf (now p) .junctions) × OfNamed (now p) (fixings .required) ⌝ }
     ensures { λ v. ⌜ (v .cost ≡ wayCost (wayIn (now (p .entry)) fixings t s)) × Guides (now (p .entry)) fixings t s (v .firsts) ⌝ }
 {
     let mut costs = [NO_WAY; 257];

@@ -70,7 +70,7 @@ ways-to-requires : tie.Need-ways-to-requires
 ways-to-requires c κs =
     let from = start (c .before .before .before) in
     let h = from .pre in
-    (record { accepted = h .0; placed = h .1; ended = h .2; listed = h .3 }, h .4, ends from .0, ends from .1, ends from .3)
+    (record { accepted = h .0; placed = h .1; ended = h .2; listed = h .3 }, h .4, ends from .0, ends from .1, ends from .3, h .6)
 
 nothing-requires-2 : tie.Need-nothing-requires-2
 nothing-requires-2 c κs = search needs

@@ -7,7 +7,7 @@ use borrow.Author.Needs.{needs}
 use lib.Bits.{bitAnd}
 use lib.ListN.{getD}
 use Rattle.plan.proofs.Reading.{plan-sizes}
-use Rattle.route.proofs.Exits.{none-required}
+use Rattle.route.proofs.Exits.{none-required, some-required}
 use Rattle.route.proofs.relax.way_from.Statement.{statement}
 use Rattle.route.proofs.relax.way_from.Tie as tie
 
@@ -32,8 +32,13 @@ cheapest-requires c κs =
 returns : tie.Need-returns
 returns c = search needs
 
-way-by-requires : tie.Need-way-by-requires
-way-by-requires c κs = search needs
+by-required-requires : tie.Need-by-required-requires
+by-required-requires c κs =
+    let start = c .before .before .before .before in
+    let a = start .args in
+    let h = start .pre in
+    let exit = ap (λ (exits : List ℕ). bitAnd (getD exits (a .u) 0) (a .fixings .required)) (h .1) in
+    (h .0, h .2, h .3, h .4, some-required (h .0 .accepted) (a .fixings) (a .u) (below start) (h .5) (λ z. c .if1 .left (exit ∙ z)))
 
 returns-2 : tie.Need-returns-2
 returns-2 c = search needs
@@ -41,4 +46,4 @@ returns-2 c = search needs
 pub way-from-spec : {M : Type 1} → statement M
 way-from-spec =
     tie.close
-    (tie.spec mul-if1 element-copy-out-if1 cheapest-requires returns way-by-requires returns-2)
+    (tie.spec mul-if1 element-copy-out-if1 cheapest-requires returns by-required-requires returns-2)

@@ -43,7 +43,7 @@ way-from-requires c κs =
     let turn = c .before in
     let done = turn .before .loop .inv in
     let h = turn .before .before .before .pre in
-    (h .0, h .1, done .low, omega (arith, turn .loop-test .taken, h .2), omega (arith, done .inside, h .4))
+    (h .0, h .1, done .low, omega (arith, turn .loop-test .taken, h .2), omega (arith, done .inside, h .4), h .5)
 
 -- the junction of a turn is below 257, as t is
 below : (c : tie.In-loop Inv-loop μ-loop) → c .before .loop .u - 1 < 257

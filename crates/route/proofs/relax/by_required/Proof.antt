@@ -1,46 +1,32 @@
--- `route::relax::way_by` meets its contract: the belts that are left make of the way so far what all belts of the junction make of none.
+-- `route::relax::by_required` meets its contract: the required ones of the belts that are left make of the way so far what all belts of the junction
+-- make of none.
 -- Assumes nothing.
-use mathlib.Core.Path.{_≡_, refl, sym, _∙_, ap, subst}
-use mathlib.Core.Bool.{Bool}
-use mathlib.Core.List.{List, _∷_}
+use mathlib.Core.Path.{_≡_, sym, _∙_, ap, subst}
+use mathlib.Core.Logic.{⊎-elim}
+use mathlib.Core.Bool.{true}
+use mathlib.Core.List.{List}
 use Prim.Native.Nat.{ℕ, _-_, _<_}
 use native.Mathlib.Omega.{arith}
 use borrow.Author.Needs.{needs}
 use lib.ListN.{getD}
-use Rattle.plan.specs.declared.read.BeltId.{BeltId}
-use Rattle.plan.specs.declared.named.Place.{Place}
 use Rattle.plan.specs.Lists.{mem}
 use Rattle.plan.specs.Plan.{Belt, planOf, leaving, named, placeOf, placeIn, beltId}
-use Rattle.plan.specs.Adjacency.{arcName}
 use Rattle.plan.specs.Reading.{Bytes}
 use Rattle.plan.proofs.Reading.{plan-sizes}
 use Rattle.route.specs.declared.relax.Fixings.{Fixings}
 use Rattle.route.specs.declared.relax.Way.{Way}
-use Rattle.route.specs.Values.{inMask, subproblemIn, LowPlace}
-use Rattle.route.specs.Inner.{arcBelt, wayOver, preferred, noWay, wayBy}
+use Rattle.route.specs.Values.{inMask, fixedIn, subproblemIn, LowPlace}
+use Rattle.route.specs.Inner.{wayOver, preferred, noWay, wayBy}
 use Rattle.route.proofs.Fixed.{fixed-mem}
-use Rattle.route.proofs.Spans.{Arc, Left, Next, end-low, left-start, left-next, left-end, arc-low, arc-place}
-use Rattle.route.proofs.relax.way_by.Statement.{statement}
-use Rattle.route.proofs.relax.way_by.Tie as tie
+use Rattle.route.proofs.Required.{Fixed, fixed-start, fixed-taken, fixed-passed, fixed-end}
+use Rattle.route.proofs.Spans.{Left, Next, end-low, left-start, left-next, left-end, arc-low, arc-place}
+use Rattle.route.proofs.relax.by_required.Statement.{statement}
+use Rattle.route.proofs.relax.by_required.Tie as tie
 
--- one turn: the belt is looked at as the definition looks at it, its place telling whether it is forbidden and whether it is required
-turn : {b : List ℕ} (f : Fixings) (costs : List ℕ) (nearest : ℕ) (way : Way) {a : ℕ} {e : Belt} → Arc b a e
-    → {g : BeltId} → g .0 ≡ arcName a → {q : Place} → q ≡ placeOf (named (planOf b)) (e .name) → {out need : Bool} {over : ℕ}
-    → out ≡ inMask (f .forbidden) q → need ≡ inMask (f .required) q → over ≡ wayOver costs nearest out (arcBelt a) → (es : List Belt)
-    → wayBy (subproblemIn b f) costs nearest (preferred way g over need) es ≡ wayBy (subproblemIn b f) costs nearest way (e ∷ es)
-turn {b} f costs nearest way {a} {e} arc {g} hg there {out} {need} ho hn hc es =
-    let x = subproblemIn b f in
-    let ns = named (planOf b) in
-    let forbidden : out ≡ mem (e .name) (x .forbidden) = ho ∙ ap (inMask (f .forbidden)) there ∙ sym (fixed-mem ns (f .forbidden) (e .name)) in
-    let required : need ≡ mem (e .name) (x .required) = hn ∙ ap (inMask (f .required)) there ∙ sym (fixed-mem ns (f .required) (e .name)) in
-    let same = hc ∙ (λ i. wayOver costs nearest (forbidden i) (record { name = e .name; leaves = e .leaves; leads = arc .leads i; cost = arc .costs i })) in
-    let name : g .0 ≡ e .name = hg ∙ arc .names in
-    λ i. wayBy x costs nearest (preferred way (beltId (name i)) (same i) (required i)) es
-
--- with the belts es the way is that of all
+-- with the required ones of the belts es the way is that of all
 abbrev Gives : List ℕ → Fixings → List ℕ → ℕ → ℕ → Way → List Belt → Type 0
 Gives p f costs nearest u way es =
-    wayBy (subproblemIn p f) costs nearest way es ≡ wayBy (subproblemIn p f) costs nearest noWay (leaving (planOf p) u)
+    Fixed (subproblemIn p f) costs nearest (wayBy (subproblemIn p f) costs nearest noWay (leaving (planOf p) u)) way es
 
 abbrev Inv-loop : tie.InvT-loop
 Inv-loop p places ends arcs fixings costs nearest u way₀ end i₀ way i = Left p arcs i end (Gives p fixings costs nearest u way)
@@ -83,7 +69,7 @@ loop-holds : tie.Need-loop-holds Inv-loop μ-loop
 loop-holds c =
     let start = c .before .before .before in
     let h = start .pre in
-    left-start (h .0 .accepted) (h .0) (start .args .u) (h .2) (h .3) refl
+    left-start (h .0 .accepted) (h .0) (start .args .u) (h .2) (h .3) (fixed-start (leaving (planOf (start .args .p .now)) (start .args .u)) (h .4))
 
 -- a turn of the loop: where it was asked for, and the belt that is next
 abbrev start : tie.In-loop Inv-loop μ-loop → tie.Start Inv-loop μ-loop
@@ -123,13 +109,13 @@ there c =
 has-requires : tie.Need-has-requires Inv-loop μ-loop
 has-requires c κs = there c .1
 
-way-over-requires : tie.Need-way-over-requires Inv-loop μ-loop
-way-over-requires c κs =
-    let turn = c .before .before .before .before .before in
-    (arc-low (start turn .pre .0 .accepted) (next turn .arc) .0, start turn .pre .1)
-
 has-requires-2 : tie.Need-has-requires-2 Inv-loop μ-loop
 has-requires-2 c κs = there (c .before .before) .1
+
+way-over-requires : tie.Need-way-over-requires Inv-loop μ-loop
+way-over-requires c κs =
+    let turn = c .before .before .before .before .before .before .before in
+    (arc-low (start turn .pre .0 .accepted) (next turn .arc) .0, start turn .pre .1)
 
 preferred-requires : tie.Need-preferred-requires Inv-loop μ-loop
 preferred-requires c κs = search needs
@@ -140,28 +126,45 @@ add-i c = search needs
 loop-less : tie.Need-loop-less Inv-loop μ-loop
 loop-less c = search needs
 
+-- what a mask has of the belt, by its place
+fixes : (c : tie.After-place-of Inv-loop μ-loop) (m : ℕ) → let turn = c .before .before .before .before in
+    inMask m (c .place-of .result) ≡ mem (next turn .belt .name) (fixedIn (named (planOf (start turn .args .p .now))) m)
+fixes c m =
+    let turn = c .before .before .before .before in
+    ap (inMask m) (there c .0) ∙ sym (fixed-mem (named (planOf (start turn .args .p .now))) m (next turn .belt .name))
+
+-- what is left makes of the way, once the belt is looked at, what it is to give
+passed : (c : tie.Joined1 Inv-loop μ-loop) → let turn = c .before .before .before .before .before .before in let a = start turn .args in
+    Gives (a .p .now) (a .fixings) (a .costs .now) (a .nearest) (a .u) (c .if1 .way) (next turn .others)
+passed c =
+    let asked = c .before in
+    let found = asked .before in
+    let turn = found .before .before .before .before in
+    let a = start turn .args in
+    let n = next turn in
+    let e = n .belt in
+    let give : Way → Type 0 = λ way. Gives (a .p .now) (a .fixings) (a .costs .now) (a .nearest) (a .u) way (n .others) in
+    let needed = sym (fixes found (a .fixings .required)) ∙ sym (asked .has .ensures) in
+    ⊎-elim
+    (λ w.
+    let out = w .1 .ensures ∙ fixes found (a .fixings .forbidden) in
+    let arc = n .arc in
+    let over = w .2 .ensures ∙ (λ i. wayOver (a .costs .now) (a .nearest) (out i) (record { name = e .name; leaves = e .leaves; leads = arc .leads i; cost = arc .costs i })) in
+    let name : found .before .before .name .result .0 ≡ e .name = found .before .before .name .ensures ∙ arc .names in
+    subst give (sym (w .4 ∙ w .3 .ensures ∙ (λ i. preferred (turn .before .loop .way) (beltId (name i)) (over i) true))) (fixed-taken (n .passes) (needed ∙ w .0 .taken)))
+    (λ w. subst give (sym (w .1)) (fixed-passed (n .passes) (needed ∙ w .0 .left)))
+    (c .if1 .came)
+
 loop-again : tie.Need-loop-again Inv-loop μ-loop
 loop-again c =
-    let required = c .before .has2 in
-    let over = c .before .before .way-over in
-    let forbidden = c .before .before .before .has in
-    let found = c .before .before .before .before in
-    let here = found .before .before .before .before in
-    let a = start here .args in
-    let n = next here in
-    let by = wayBy (subproblemIn (a .p .now) (a .fixings)) (a .costs .now) (a .nearest) in
-    let looked = turn (a .fixings) (a .costs .now) (a .nearest) (here .before .loop .way) (n .arc) (found .before .before .name .ensures) (there found .0) in
-    record {
-      es = n .others;
-      span = n .span;
-      passes = ap (λ (w : Way). by w (n .others)) (c .preferred .ensures) ∙ looked (forbidden .ensures) (required .ensures) (over .ensures) (n .others) ∙ n .passes;
-    }
+    let n = next (c .before .before .before .before .before .before) in
+    record { es = n .others; span = n .span; passes = passed c }
 
 returns : tie.Need-returns Inv-loop μ-loop
-returns c = left-end (c .before .loop .inv) (c .loop-test .left)
+returns c = fixed-end (left-end (c .before .loop .inv) (c .loop-test .left))
 
-pub way-by-spec : {M : Type 1} → statement M
-way-by-spec =
+pub by-required-spec : {M : Type 1} → statement M
+by-required-spec =
     tie.close
     (tie.spec
     Inv-loop
@@ -179,8 +182,8 @@ way-by-spec =
     name-requires
     place-of-requires
     has-requires
-    way-over-requires
     has-requires-2
+    way-over-requires
     preferred-requires
     add-i
     loop-less
