@@ -17,7 +17,7 @@ use Rattle.plan.proofs.Reading.{belt-of}
 use Rattle.route.specs.declared.relax.Relaxed.{Relaxed}
 use Rattle.route.specs.Routes.{IsRoute, cost, costLimit, beltsByName}
 use Rattle.route.specs.Subproblems.{relaxed}
-use Rattle.route.specs.Values.{idsOf, packed, Known, routeIn, relaxedAs}
+use Rattle.route.specs.Values.{idsOf, packed, Known, routeIn, maskOf, relaxedAs}
 use Rattle.route.specs.Claims.{AnswerClaim}
 use Rattle.route.proofs.ByName.{names-belts, route-few, route-cheap, route-belts, ids-packed}
 use Rattle.route.proofs.Firsts.{relaxed-some}
@@ -43,15 +43,17 @@ answer-claim b ok bytes s t low high x v e h = go (relaxed (planOf b) s t x) ref
   where
     Answer : Option (List Belt) → Relaxed → Type 0
     Answer o w = Known b (w .route) × (o ≡ some (routeIn b (w .route))) × (w .cost ≡ cost (routeIn b (w .route))) × (w .cost < costLimit)
+        × (w .named ≡ maskOf b (idsOf (w .route)))
 
     go : (o : Option (List Belt)) → relaxed (planOf b) s t x ≡ o → Answer o v
-    go none q = absurd (true≢false (sym h ∙ ap (λ (w : Relaxed). w .found) (e ∙ ap relaxedAs q)))
+    go none q = absurd (true≢false (sym h ∙ ap (λ (w : Relaxed). w .found) (e ∙ ap (relaxedAs b) q)))
     go (some r) q =
         let i : IsRoute (planOf b) s t r = relaxed-some ok s t x r q .0 in
         let here = same ok s t r i low high in
-        subst (Answer (some r)) (sym (e ∙ ap relaxedAs q)) (
+        subst (Answer (some r)) (sym (e ∙ ap (relaxedAs b) q)) (
           known ok s t r i low high,
           ap {B = Option (List Belt)} some (sym here),
           ap cost (sym here),
           route-cheap ok bytes s t r high i,
+          ap (maskOf b) (sym (ids-packed (namesOf r) (few ok s t r i low high))),
         )

@@ -9,6 +9,8 @@
 --                  the trailing zeros of a number: below so many none is 1, and the next is
 --   bits-equal     numbers of n bits with the same bits are equal
 --   shifted        w bits do not cut the bit of a lower place
+--   low-bits, high-bits
+--                  a number above the n low bits of another: the bits of the one below place n, and those of the other from there on
 --   setting        for any choice of modes among 1 to M there is a setting below 2^M in which exactly the chosen ones are on
 --
 -- Everything goes bit by bit: bit j + 1 of a number is bit j of its half (half-set). Assumes nothing.
@@ -16,9 +18,9 @@ use mathlib.Core.Path.{_≡_, refl, sym, _∙_, ap}
 use mathlib.Core.Bool.{Bool, true, false, not, _&&_, _||_}
 use Prim.Native.Nat.{ℕ, zero, suc, _+_, _-_, _*_, _/_, _%_, _^_, _≤_, _<_}
 use native.Mathlib.Omega.{arith}
-use native.Mathlib.Nat.{one-mul, div-eq-of-lt, two-pow-succ}
+use native.Mathlib.Nat.{one-mul, mul-assoc, div-eq-of-lt, add-mul-div-right, add-mul-mod-self-right, two-pow-succ}
 use native.Mathlib.Numerals.{one-add, sub-one}
-use lib.Pow.{pow-pos, shl-exact, shr-shr}
+use lib.Pow.{pow-pos, pow-add, shl-exact, shr-shr}
 use lib.Bits.{bitAnd, bitOr, bitXor, and-shr, and-mod, or-shr, or-mod, xor-shr, xor-mod}
 use lib.Count.{under, trailingZeros}
 use lib.Dec.{eqb, lit<, eqb·zero-suc, eqb·suc-zero, eqb·suc-suc}
@@ -64,6 +66,27 @@ or-power n i j = or-set n (2 ^ i) j ∙ ap (λ (t : Bool). isSet n j || t) (powe
 
 pub shifted : (k w : ℕ) → k < w → (1 * 2 ^ k) % 2 ^ w ≡ 2 ^ k
 shifted k w h = shl-exact 1 k w (lit< tt) (omega arith) ∙ one-mul (2 ^ k)
+
+-- ---- one number above the low bits of another
+
+pub low-bits : (x y n k : ℕ) → k < n → isSet (x + y * 2 ^ n) k ≡ isSet x k
+low-bits x y n k h =
+    let d = n - suc k in
+    let e : n ≡ (d + 1) + k = omega arith in
+    let parts : y * 2 ^ n ≡ y * 2 ^ d * 2 * 2 ^ k =
+    ap (λ (m : ℕ). y * 2 ^ m) e
+    ∙ ap (λ (m : ℕ). y * m) (pow-add 2 (d + 1) k)
+    ∙ sym (mul-assoc y (2 ^ (d + 1)) (2 ^ k))
+    ∙ ap (λ (m : ℕ). m * 2 ^ k) (ap (λ (m : ℕ). y * m) (pow-add 2 d 1) ∙ sym (mul-assoc y (2 ^ d) 2)) in
+    let cut : (x + y * 2 ^ n) / 2 ^ k ≡ x / 2 ^ k + y * 2 ^ d * 2 =
+    ap (λ (m : ℕ). (x + m) / 2 ^ k) parts ∙ add-mul-div-right x (y * 2 ^ d * 2) (pow-pos k) in
+    ap (λ (m : ℕ). eqb m 1) (ap (λ (m : ℕ). m % 2) cut ∙ add-mul-mod-self-right (x / 2 ^ k) (y * 2 ^ d) 2)
+
+pub high-bits : (x y n k : ℕ) → x < 2 ^ n → isSet (x + y * 2 ^ n) (n + k) ≡ isSet y k
+high-bits x y n k h =
+    let past : x / 2 ^ n ≡ 0 = div-eq-of-lt h in
+    let cut : (x + y * 2 ^ n) / 2 ^ n ≡ y = add-mul-div-right x y (pow-pos n) ∙ omega arith in
+    ap (λ (m : ℕ). eqb (m % 2) 1) (sym (shr-shr (x + y * 2 ^ n) n k) ∙ ap (λ (m : ℕ). m / 2 ^ k) cut)
 
 -- ---- bits in common
 

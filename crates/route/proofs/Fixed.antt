@@ -11,7 +11,7 @@
 --   with-low, with-belt a mask with a named belt in it is of named belts, and has that belt and those that it had
 --   masks-equal         masks that have the same named belts are equal
 --   joined-fixes        two masks joined have the belts of both; common-fixes: what they have in common, those that both have
---   gathered-from       the mask gathered from some belts has a named belt exactly when it is one of them
+--   gathered-from       the mask gathered from some belts has a named belt exactly when it is one of them; gathered-low: it is of named belts
 --
 -- Every bit that a mask can have is the place of a named belt, so masks are compared belt by belt: they are equal where they have the same
 -- named belts. Assumes nothing.
@@ -22,7 +22,7 @@ use Prim.Native.Nat.{ℕ, _%_, _^_, _<_}
 use mathlib.Core.List.{List, [], _∷_, List·Memᴰ, List·Memᴰ·head, List·Memᴰ·tail, Memᴰ·cast}
 use native.Mathlib.Omega.{arith}
 use native.Mathlib.Nat.{zero-div}
-use lib.Pow.{pow-lt}
+use lib.Pow.{pow-lt, pow-pos}
 use lib.Bits.{bitAnd, bitOr, or-lt}
 use lib.ListN.{length, getD}
 use lib.Dec.{eqb, ltb}
@@ -159,3 +159,23 @@ module _ {ns : List ℕ} (rises : Rises ns) where
   pub gathered-from : {places : List ℕ} → places ≡ placesOf ns → (es : List ℕ) → ((e : ℕ) → List·Memᴰ e es → e < 2048)
       → (e : ℕ) → List·Memᴰ e ns → fixes ns (gatheredIn places 0 es) e ≡ mem e es
   gathered-from all es low e i = gathered-has all 0 es low e i ∙ ap (λ (t : Bool). t || mem e es) (nothing-has ns e)
+
+  -- and it is of named belts
+  with-any-low : (m x : ℕ) → m < 2 ^ length ns → withPlace m (placeOf ns x) < 2 ^ length ns
+  with-any-low m x h = go (test (mem x ns))
+    where
+      go : (mem x ns ≡ true) ⊎ (mem x ns ≡ false) → withPlace m (placeOf ns x) < 2 ^ length ns
+      go (inl t) = with-low m x (mem-in ns t) h
+      go (inr t) = subst (λ (s : Bool). withPlace m (placeBy s (lower x)) < 2 ^ length ns) (sym t) h
+
+  gathered-below : {places : List ℕ} → places ≡ placesOf ns → (m : ℕ) (es : List ℕ) → ((e : ℕ) → List·Memᴰ e es → e < 2048)
+      → m < 2 ^ length ns → gatheredIn places m es < 2 ^ length ns
+  gathered-below {places} all m [] low h = h
+  gathered-below {places} all m (x ∷ es) low h =
+      let there : placeIn places x ≡ placeOf ns x = ap (λ (ps : List ℕ). placeIn ps x) all ∙ place-is ns x (low x (List·Memᴰ·head refl)) in
+      gathered-below all (withPlace m (placeIn places x)) es (λ y j. low y (List·Memᴰ·tail j))
+      (subst (λ (q : Place). withPlace m q < 2 ^ length ns) (sym there) (with-any-low m x h))
+
+  pub gathered-low : {places : List ℕ} → places ≡ placesOf ns → (es : List ℕ) → ((e : ℕ) → List·Memᴰ e es → e < 2048)
+      → gatheredIn places 0 es < 2 ^ length ns
+  gathered-low all es low = gathered-below all 0 es low (pow-pos (length ns))

@@ -3,15 +3,17 @@
 --   AgreeOn rules x y   the tests x and y agree on the belts that the rules name
 --   met-cong          such tests meet the same rules; lowest-cong: have one lowest setting
 --   permitted-same    so have two routes that pass the same of these belts
---   known-low         the belts of a Route of an accepted plan can be looked up
 --   passes-named      the belts of an accepted plan with these names pass exactly these
---   met-marks         in an accepted plan the marks of a Route meet the rules that the route meets
---   lowest-marks      and have its lowest setting
+--   known-low         the names of the belts of a Route of an accepted plan are below 2,048
+--   route-placeable   they can be looked up
+--   mask-named        the mask of some belts is of named belts
+--   met-mask          in an accepted plan the mask of a Route meets the rules that the route meets
+--   lowest-mask       and has its lowest setting
 --
 -- Assumes nothing.
-use mathlib.Core.Path.{_≡_, refl, sym, _∙_, ap}
+use mathlib.Core.Path.{_≡_, refl, sym, _∙_, ap, subst}
 use mathlib.Core.Bool.{Bool, Bool·beq}
-use Prim.Native.Nat.{ℕ, _^_}
+use Prim.Native.Nat.{ℕ, _^_, _<_}
 use mathlib.Core.List.{List, List·Memᴰ}
 use Rattle.plan.specs.declared.read.BeltId.{BeltId}
 use Rattle.plan.specs.declared.read.Literal.{Literal}
@@ -20,16 +22,16 @@ use Rattle.plan.specs.Lists.{mem, run}
 use Rattle.plan.specs.Plan.{Belt, planOf, namesOf}
 use Rattle.plan.specs.Reading.{Accepted, IsBelt}
 use Rattle.plan.proofs.Lists.{any-cong, all-cong}
-use Rattle.plan.proofs.Naming.{names-back}
-use Rattle.plan.proofs.Reading.{literal-belt, belt-low}
+use Rattle.plan.proofs.Naming.{names-back, named-rises}
+use Rattle.plan.proofs.Reading.{belt-low}
 use Rattle.route.specs.declared.path.Route.{Route}
 use Rattle.route.specs.Routes.{beltsByName}
 use Rattle.route.specs.Permission.{passes, holds, met, allMet, lowest}
-use Rattle.route.specs.Values.{idsOf, Known, routeIn, marksOf, marked}
-use Rattle.route.specs.Inner.{Low}
+use Rattle.route.specs.Values.{idsOf, Known, routeIn, LowPlace, OfNamed, namedPlaces, Placeable, maskOf, hasBelt}
 use Rattle.route.proofs.Lowest.{find-cong}
 use Rattle.route.proofs.ByName.{named-map, passes-names}
-use Rattle.route.proofs.Marks.{marked-is}
+use Rattle.route.proofs.Fixed.{place-low, looked-up, gathered-from, gathered-low}
+use Rattle.route.proofs.Codes.{literal-named}
 
 -- ---- tests that agree
 
@@ -54,21 +56,31 @@ permitted-same rules m x y h = lowest-cong rules m (passes x) (passes y) h
 -- ---- the belts of a route
 
 module _ {b : List ℕ} (ok : Accepted b) where
-  pub known-low : (r : Route) → Known b r → Low r
-  known-low r k = record { few = k .few; low = λ e m. belt-low ok e (k .belts e m) .2 }
-
   passes-named : (es : List ℕ) → ((e : ℕ) → List·Memᴰ e es → IsBelt b e) → (e : ℕ) → passes (beltsByName (planOf b) es) e ≡ mem e es
   passes-named es h e = passes-names (beltsByName (planOf b) es) e ∙ ap (mem e) (ap namesOf (named-map ok es h) ∙ names-back b es)
 
-  -- the marks tell of each belt that a rule names what the route does
-  marks-agree : (r : Route) → Known b r → AgreeOn (planOf b .rules) (marked (marksOf (idsOf r))) (passes (routeIn b r))
-  marks-agree r k rule m e w i =
-      marked-is (idsOf r) (e .0) (belt-low ok (e .0) (literal-belt ok rule m e w i) .2) ∙ sym (passes-named (idsOf r) (k .belts) (e .0))
+  pub known-low : (r : Route) → Known b r → (e : ℕ) → List·Memᴰ e (idsOf r) → e < 2048
+  known-low r k e m = belt-low ok e (k .belts e m) .2
 
-  pub met-marks : (r : Route) → Known b r → (σ : ℕ)
-      → allMet (planOf b .rules) (marked (marksOf (idsOf r))) σ ≡ allMet (planOf b .rules) (passes (routeIn b r)) σ
-  met-marks r k σ = met-cong (planOf b .rules) (marked (marksOf (idsOf r))) (passes (routeIn b r)) (marks-agree r k) σ
+  pub route-placeable : (r : Route) → Known b r → {places : List ℕ} → places ≡ namedPlaces b → Placeable places r
+  route-placeable r k all = record {
+    few = k .few;
+    low = λ e m. (known-low r k e m, subst LowPlace (sym (looked-up b e all refl (known-low r k e m))) (place-low ok e));
+  }
 
-  pub lowest-marks : (r : Route) → Known b r → (m : ℕ)
-      → lowest (planOf b .rules) m (marked (marksOf (idsOf r))) ≡ lowest (planOf b .rules) m (passes (routeIn b r))
-  lowest-marks r k m = lowest-cong (planOf b .rules) m (marked (marksOf (idsOf r))) (passes (routeIn b r)) (marks-agree r k)
+  pub mask-named : (es : List ℕ) → ((e : ℕ) → List·Memᴰ e es → e < 2048) → OfNamed b (maskOf b es)
+  mask-named es low = gathered-low (named-rises b) refl es low
+
+  -- the mask tells of each belt that a rule names what the route does
+  mask-agrees : (r : Route) → Known b r → AgreeOn (planOf b .rules) (hasBelt b (maskOf b (idsOf r))) (passes (routeIn b r))
+  mask-agrees r k rule m e w i =
+      gathered-from (named-rises b) refl (idsOf r) (known-low r k) (e .0) (literal-named ok m e w i)
+      ∙ sym (passes-named (idsOf r) (k .belts) (e .0))
+
+  pub met-mask : (r : Route) → Known b r → (σ : ℕ)
+      → allMet (planOf b .rules) (hasBelt b (maskOf b (idsOf r))) σ ≡ allMet (planOf b .rules) (passes (routeIn b r)) σ
+  met-mask r k σ = met-cong (planOf b .rules) (hasBelt b (maskOf b (idsOf r))) (passes (routeIn b r)) (mask-agrees r k) σ
+
+  pub lowest-mask : (r : Route) → Known b r → (n : ℕ)
+      → lowest (planOf b .rules) n (hasBelt b (maskOf b (idsOf r))) ≡ lowest (planOf b .rules) n (passes (routeIn b r))
+  lowest-mask r k n = lowest-cong (planOf b .rules) n (hasBelt b (maskOf b (idsOf r))) (passes (routeIn b r)) (mask-agrees r k)

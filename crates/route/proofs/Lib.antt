@@ -23,9 +23,10 @@ pub mod Chosen
 pub mod Answered
 pub mod Lowest
 pub mod Held
-pub mod Marks
+pub mod Codes
 pub mod Holding
 pub mod Ahead
+pub mod Entries
 pub mod Readings
 pub mod Stores
 pub mod Forms

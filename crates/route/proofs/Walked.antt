@@ -1,15 +1,15 @@
 -- The walk forward: at each junction, what is stored and what is left of the way on make the whole way on from s.
 --
---   Walked b f s t at count belts
---                  the walk has come to junction at and has stored count belts
+--   Walked b f s t at count belts m
+--                  the walk has come to junction at, has stored count belts and gathered the mask m
 --   walked-start   it starts with nothing stored
---   Step b f s t at count belts x
---                  it can go on by belt x, which it stores
+--   Step b f s t at count belts m x
+--                  it can go on by belt x, which it stores and gathers
 --   walked-next    where t is not reached it can go on by the belt that firsts has
 --   walked-whole   where t is reached, the route that is stored is the answer
 --
--- Nothing is said of the belts behind: that those left, stored from here on, would give what the whole way gives is kept by every step, and
--- at t, where none is left, it says what is wanted. Assumes nothing.
+-- Nothing is said of the belts behind: that those left, stored and gathered from here on, would give what the whole way gives is kept by every
+-- step, and at t, where none is left, it says what is wanted. Assumes nothing.
 use mathlib.Core.Path.{_≡_, refl, sym, _∙_, ap, subst}
 use mathlib.Core.Bool.{true}
 use mathlib.Core.Option.{Option, none, some}
@@ -20,13 +20,13 @@ use native.Mathlib.Numerals.{add-one}
 use lib.ListN.{length, getD, set, replicate, length-map}
 use lib.Seq.{sets}
 use Rattle.plan.specs.declared.read.BeltId.{BeltId}
-use Rattle.plan.specs.Plan.{Belt, planOf, beltAt, namesOf, beltId}
+use Rattle.plan.specs.Plan.{Belt, planOf, beltAt, namesOf, beltId, placeIn}
 use Rattle.plan.specs.Reading.{Accepted, IsBelt}
 use Rattle.plan.proofs.Reading.{belt-of, belt-ends}
 use Rattle.route.specs.declared.relax.Fixings.{Fixings}
 use Rattle.route.specs.declared.relax.Relaxed.{Relaxed}
 use Rattle.route.specs.Routes.{cost, costLimit}
-use Rattle.route.specs.Values.{packed, subproblemIn, relaxedAs}
+use Rattle.route.specs.Values.{packed, subproblemIn, withPlace, namedPlaces, gatheredIn, maskOf, relaxedAs}
 use Rattle.route.specs.Inner.{wayIn, wayCost, Guides}
 use Rattle.route.proofs.ByName.{route-few, packed-sets}
 use Rattle.route.proofs.Order.{ends-claim}
@@ -40,7 +40,7 @@ way-found (some r) costBy h = (r, refl)
 -- ---- the walk
 
 -- whole: the way on from s; rest: that from where the walk is
-pub record Walked (b : List ℕ) (f : Fixings) (s t at count : ℕ) (belts : List BeltId) : Type 0 where
+pub record Walked (b : List ℕ) (f : Fixings) (s t at count : ℕ) (belts : List BeltId) (m : ℕ) : Type 0 where
   whole : List Belt
   rest : List Belt
   way : wayIn b f t s ≡ some whole
@@ -49,16 +49,17 @@ pub record Walked (b : List ℕ) (f : Fixings) (s t at count : ℕ) (belts : Lis
   reached : s ≤ at
   counts : count + length rest ≡ length whole
   stores : sets belts count (map beltId (namesOf rest)) ≡ packed (namesOf whole) .belts
+  gathers : gatheredIn (namedPlaces b) m (namesOf rest) ≡ maskOf b (namesOf whole)
 
-pub record Step (b : List ℕ) (f : Fixings) (s t at count : ℕ) (belts : List BeltId) (x : BeltId) : Type 0 where
+pub record Step (b : List ℕ) (f : Fixings) (s t at count : ℕ) (belts : List BeltId) (m : ℕ) (x : BeltId) : Type 0 where
   pub belt : IsBelt b (x .0)
   pub room : count < 255
   pub higher : at < beltAt b (x .0) .leads
   pub inside : beltAt b (x .0) .leads ≤ t
-  pub walked : Walked b f s t (beltAt b (x .0) .leads) (count + 1) (set belts count x)
+  pub walked : Walked b f s t (beltAt b (x .0) .leads) (count + 1) (set belts count x) (withPlace m (placeIn (namedPlaces b) (x .0)))
 
 module _ {b : List ℕ} (ok : Accepted b) {f : Fixings} {s t : ℕ} where
-  pub walked-start : {c : ℕ} → 1 ≤ s → t ≤ planOf b .junctions → c ≡ wayCost (wayIn b f t s) → (c ≡ costLimit → ⊥) → Walked b f s t s 0 (replicate 255 (beltId 0))
+  pub walked-start : {c : ℕ} → 1 ≤ s → t ≤ planOf b .junctions → c ≡ wayCost (wayIn b f t s) → (c ≡ costLimit → ⊥) → Walked b f s t s 0 (replicate 255 (beltId 0)) 0
   walked-start low inside costBy h =
       let (r, q) = way-found (wayIn b f t s) costBy h in
       let few : length r ≤ 255 = route-few ok s t r low inside (way-route ok (subproblemIn b f) t s r q) in
@@ -71,17 +72,18 @@ module _ {b : List ℕ} (ok : Accepted b) {f : Fixings} {s t : ℕ} where
         reached = omega arith;
         counts = omega arith;
         stores = packed-sets (namesOf r) (omega (arith, length-map r (λ (e : Belt). e .name)));
+        gathers = refl;
       }
 
-  module _ {at count : ℕ} {belts : List BeltId} (w : Walked b f s t at count belts) where
+  module _ {at count : ℕ} {belts : List BeltId} {m : ℕ} (w : Walked b f s t at count belts m) where
     -- the belt that is first in what is left is stored
-    step : (e : Belt) (r : List Belt) → w .rest ≡ e ∷ r → Step b f s t at count belts (beltId (e .name))
+    step : (e : Belt) (r : List Belt) → w .rest ≡ e ∷ r → Step b f s t at count belts m (beltId (e .name))
     step e r q =
         let on = w .on ∙ ap (λ (l : List Belt). some l) q in
-        let (m, leaves, next) = way-next ok (subproblemIn b f) t at e r on in
-        let (o, same) = belt-of ok e m in
+        let (i, leaves, next) = way-next ok (subproblemIn b f) t at e r on in
+        let (o, same) = belt-of ok e i in
         let leads : e .leads ≡ beltAt b (e .name) .leads = ap (λ (y : Belt). y .leads) same in
-        let higher : at < e .leads = omega (arith, leaves, belt-ends ok e m .1) in
+        let higher : at < e .leads = omega (arith, leaves, belt-ends ok e i .1) in
         let left : length (w .rest) ≡ suc (length r) = ap length q in
         record {
           belt = o;
@@ -99,24 +101,25 @@ module _ {b : List ℕ} (ok : Accepted b) {f : Fixings} {s t : ℕ} where
             stores = ap (λ (k : ℕ). sets (set belts count (beltId (e .name))) k (map beltId (namesOf r))) (add-one count)
                 ∙ sym (ap (λ (l : List Belt). sets belts count (map beltId (namesOf l))) q)
                 ∙ w .stores;
+            gathers = sym (ap (λ (l : List Belt). gatheredIn (namedPlaces b) m (namesOf l)) q) ∙ w .gathers;
           };
         }
 
-    pub walked-next : (firsts : List BeltId) → Guides b f t s firsts → (at ≡ t → ⊥) → Step b f s t at count belts (getD firsts at (beltId 0))
+    pub walked-next : (firsts : List BeltId) → Guides b f t s firsts → (at ≡ t → ⊥) → Step b f s t at count belts m (getD firsts at (beltId 0))
     walked-next firsts g past = go (w .rest) refl
       where
-        go : (l : List Belt) → w .rest ≡ l → Step b f s t at count belts (getD firsts at (beltId 0))
+        go : (l : List Belt) → w .rest ≡ l → Step b f s t at count belts m (getD firsts at (beltId 0))
         go [] q = absurd (past (way-route ok (subproblemIn b f) t at [] (w .on ∙ ap (λ (l : List Belt). some l) q)))
         go (e ∷ r) q =
             let first = g at (w .reached) e r (w .on ∙ ap (λ (l : List Belt). some l) q) in
-            subst (Step b f s t at count belts) (sym first) (step e r q)
+            subst (Step b f s t at count belts m) (sym first) (step e r q)
 
     -- where t is reached nothing is left
     nothing-left : at ≡ t → w .rest ≡ []
     nothing-left q = ends-claim b ok at t (w .rest) (way-route ok (subproblemIn b f) t at (w .rest) (w .on)) .1 q
 
     pub walked-whole : {c : ℕ} → c ≡ wayCost (wayIn b f t s) → at ≡ t
-        → _≡_ {A = Relaxed} (record { found = true; route = record { count = count; belts = belts }; cost = c }) (relaxedAs (wayIn b f t s))
+        → _≡_ {A = Relaxed} (record { found = true; route = record { count = count; belts = belts }; cost = c; named = m }) (relaxedAs b (wayIn b f t s))
     walked-whole {c} costBy q =
         let r = w .whole in
         let none-left = nothing-left q in
@@ -124,5 +127,6 @@ module _ {b : List ℕ} (ok : Accepted b) {f : Fixings} {s t : ℕ} where
         let counted : count ≡ length (namesOf r) = omega (arith, w .counts, length-map r (λ (e : Belt). e .name)) in
         let stored : belts ≡ packed (namesOf r) .belts = sym (ap (λ (l : List Belt). sets belts count (map beltId (namesOf l))) none-left) ∙ w .stores in
         let priced : c ≡ cost r = costBy ∙ ap wayCost (w .way) in
-        (λ i. record { found = true; route = record { count = counted i; belts = stored i }; cost = priced i })
-        ∙ sym (ap relaxedAs (w .way))
+        let gathered : m ≡ maskOf b (namesOf r) = sym (ap (λ (l : List Belt). gatheredIn (namedPlaces b) m (namesOf l)) none-left) ∙ w .gathers in
+        (λ i. record { found = true; route = record { count = counted i; belts = stored i }; cost = priced i; named = gathered i })
+        ∙ sym (ap (relaxedAs b) (w .way))

@@ -60,7 +60,7 @@ use Rattle.route.specs.Sheets.{sheetOf, Reads, inForm, beltsOn, costOn, 
 use Rattle.route.specs.Refusals.{Case, queryLines, checkLines, sheetRefusal}
 use Rattle.route.specs.declared.relax.Fixings.{Fixings}
 use Rattle.route.specs.declared.relax.Relaxed.{Relaxed}
-use Rattle.route.specs.Values.{idsOf, packed, Known, routeIn, sheetIn, bytesOf, fixedIn, OfNamed, subproblemIn, relaxedAs, caseOf}
+use Rattle.route.specs.Values.{idsOf, packed, Known, routeIn, sheetIn, bytesOf, fixedIn, OfNamed, subproblemIn, maskOf, relaxedAs, caseOf}
 
 -- ---- the published definition
 
@@ -143,8 +143,9 @@ MasksClaim = (b : List ℕ) → Accepted b → (x : Subproblem)
 
 abbrev pub AnswerClaim : Type 0
 AnswerClaim = (b : List ℕ) → Accepted b → Bytes b → (s t : ℕ) → 1 ≤ s → t ≤ planOf b .junctions → (x : Subproblem) (v : Relaxed)
-    → v ≡ relaxedAs (relaxed (planOf b) s t x) → v .found ≡ true
+    → v ≡ relaxedAs b (relaxed (planOf b) s t x) → v .found ≡ true
     → Known b (v .route) × (relaxed (planOf b) s t x ≡ some (routeIn b (v .route))) × (v .cost ≡ cost (routeIn b (v .route))) × (v .cost < costLimit)
+    × (v .named ≡ maskOf b (idsOf (v .route)))
 
 -- ---- sheets
 

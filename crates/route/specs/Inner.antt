@@ -1,8 +1,10 @@
 -- What only the contracts of private functions cite; nothing that a reader has to believe.
 --
 --   placed l i vs   l with vs from place i on
---   Low r           a Route of at most 255 belts with names below 2,048, so that each can be looked up
---   Nameable l      what literal l names can be looked up: a belt below 2,048, a mode from 1 to 10
+--   Codable places l
+--                   literal l has a code: a named belt that can be looked up in the array of places, or a mode up to 10
+--   isTrue on c     the literal of code c holds, where the mask `on` has the variables that are on
+--   stores f l is   the array l with f i at place i, for each i of the list `is`
 --   lowerIds es fs  `lower` of routes with the names es and fs
 --   contentRefusal p s t v
 --                   the first broken one of lines 11 to 14 (sheetBy), or 0, by what a sheet in the form says
@@ -35,12 +37,12 @@
 --
 -- Assumes nothing.
 use mathlib.Core.Path.{_≡_}
-use Prim.Native.Nat.{ℕ, _+_, _^_, _≤_, _<_}
-use mathlib.Core.Bool.{Bool, true, false, not, _&&_, _||_}
+use Prim.Native.Nat.{ℕ, _+_, _/_, _%_, _^_, _≤_, _<_}
+use mathlib.Core.Bool.{Bool, true, false, not, _&&_, _||_, Bool·beq}
 use mathlib.Core.Option.{Option, none, some}
-use mathlib.Core.List.{List, [], _∷_, _++_, List·Memᴰ}
+use mathlib.Core.List.{List, [], _∷_, _++_}
 use lib.Bits.{bitOr}
-use lib.ListN.{length, getD, take, drop}
+use lib.ListN.{length, getD, set, take, drop}
 use lib.Dec.{eqb, leb, ltb}
 use Rattle.plan.specs.declared.read.BeltId.{BeltId}
 use Rattle.plan.specs.Lists.{all, keep, mem}
@@ -49,7 +51,6 @@ use Rattle.plan.specs.Adjacency.{arcCost, arcHead, arcName, arcsOf, endsOf}
 use Rattle.plan.specs.Reading.{Accepted}
 use Rattle.plan.specs.declared.read.Literal.{Literal}
 use Rattle.plan.specs.declared.read.Literal.the-variants.{OfBelt, OfMode}
-use Rattle.route.specs.declared.path.Route.{Route}
 use Rattle.route.specs.declared.sheet.Sheet.{Sheet}
 use Rattle.route.specs.declared.relax.Fixings.{Fixings}
 use Rattle.route.specs.declared.relax.Way.{Way}
@@ -67,13 +68,20 @@ lowerIds [] (f ∷ fs) = true
 lowerIds (e ∷ es) [] = false
 lowerIds (e ∷ es) (f ∷ fs) = first e f (lowerIds es fs)
 
-pub record Low (r : Route) : Type 0 where
-  pub few : r .count ≤ 255
-  pub low : (e : ℕ) → List·Memᴰ e (idsOf r) → e < 2048
+-- ---- clauses
 
-abbrev pub Nameable : Literal → Type 0
-Nameable (OfBelt e wanted) = e .0 < 2048
-Nameable (OfMode m wanted) = (1 ≤ m .0) × (m .0 ≤ 10)
+abbrev pub Codable : List ℕ → Literal → Type 0
+Codable places (OfBelt e wanted) = (e .0 < 2048) × (1 ≤ getD places (e .0) 0) × (getD places (e .0) 0 ≤ 48)
+Codable places (OfMode m wanted) = m .0 ≤ 10
+
+abbrev pub isTrue : ℕ → ℕ → Bool
+isTrue on c = Bool·beq (eqb (on / 2 ^ (c / 2) % 2) 1) (eqb (c % 2) 1)
+
+abbrev pub stores : (ℕ → ℕ) → List ℕ → List ℕ → List ℕ
+stores f l [] = l
+stores f l (i ∷ is) = stores f (set l i (f i)) is
+
+-- ---- the sheet check
 
 -- the first broken one of lines 11 to 14
 abbrev pub sheetBy : Bool → Bool → Bool → Bool → ℕ

@@ -4,7 +4,6 @@
 --   packed es        the Route that holds the belts es, the rest of its array 0
 --   Known b r        a Route of at most 255 belts, all of them belts of the plan b
 --   routeIn b r      the belts of the plan b that a Route holds
---   marksOf es       for each belt index below 2,048 whether it is among es; marked on e: whether such an array has e
 --   sheetIn h        the Sheet that the bytes h read as
 --   bytesOf v        the bytes of a Sheet
 --   settingIn v      the lowest setting, if there is one, that an answer stands for
@@ -17,12 +16,22 @@
 --   namedPlaces b    the places of the named belts of the plan b, as the code looks them up
 --   gatheredIn places m es
 --                    the mask m with the places of the belts es, as the array of places has them
+--   Placeable places r
+--                    the belts of a Route can be looked up in the array of places, and have bits in a mask
+--   maskOf b es      the named belts of the plan b among es, as a mask
+--   hasBelt b m e    the mask m has belt e of the plan b
 --   exitsOf b        for each number from 0 to 256 the named belts of the plan b that leave the junction of this number, as a mask
---   relaxedAs o      the answer that stands for a relaxed route, or for none
+--   relaxedAs b o    the answer that stands for a relaxed route of the plan b, or for none (noRelaxed)
+--   codeIn places l  the code of literal l: twice its variable, and 1 more where it is wanted (codeBy). The variable of a belt is its place among
+--                    the named belts, as the array of places has it; that of mode m is 47 + m, behind the places of 48 belts
+--   ruleEntry b r    the entry of rule r of the plan b: the next rule, and 65,536 times its first literal
+--   literalEntry b l the entry of literal l of the plan b: the next literal of its rule, and 65,536 times its code
+--   entryOf b i      the entry of record i of the plan b: of record 0 the first rule, of a rule and of a literal the above, of any other 0 (entryBy)
+--   clausesOf b      the entries of the plan b by record index, as an array of 2,048
 --   caseOf b trip h  the case of the sheet check
 --
 -- Assumes nothing.
-use Prim.Native.Nat.{ℕ, _-_, _/_, _%_, _^_, _≤_, _<_}
+use Prim.Native.Nat.{ℕ, zero, suc, _+_, _*_, _-_, _/_, _%_, _^_, _≤_, _<_}
 use mathlib.Core.Bool.{Bool, true, false}
 use mathlib.Core.Option.{Option, none, some}
 use mathlib.Core.List.{List, [], _∷_, _++_, map, List·Memᴰ}
@@ -30,11 +39,14 @@ use lib.Bits.{bitOr}
 use lib.ListN.{length, getD, take, replicate}
 use lib.Dec.{eqb}
 use Rattle.plan.specs.declared.read.BeltId.{BeltId}
+use Rattle.plan.specs.declared.read.Literal.{Literal}
+use Rattle.plan.specs.declared.read.Literal.the-variants.{OfBelt, OfMode}
 use Rattle.plan.specs.declared.named.Place.{Place}
 use Rattle.plan.specs.declared.named.Place.the-variants.{At, Unnamed}
-use Rattle.plan.specs.Lists.{keep, mem, upto}
-use Rattle.plan.specs.Plan.{Belt, planOf, namesOf, leaving, named, beltId, placeOf, placesOf, placeIn}
-use Rattle.plan.specs.Reading.{IsBelt}
+use Rattle.plan.specs.Lists.{keep, upto}
+use Rattle.plan.specs.Records.{kind}
+use Rattle.plan.specs.Plan.{Belt, planOf, literalAt, namesOf, leaving, named, beltId, placeOf, placesOf, placeIn}
+use Rattle.plan.specs.Reading.{IsBelt, firstRule, nextRule, firstLiteral, nextLiteral}
 use Rattle.route.specs.declared.path.Route.{Route}
 use Rattle.route.specs.declared.sheet.Sheet.{Sheet}
 use Rattle.route.specs.declared.modes.Lowest.{Lowest}
@@ -59,12 +71,6 @@ pub record Known (b : List ℕ) (r : Route) : Type 0 where
 
 abbrev pub routeIn : List ℕ → Route → List Belt
 routeIn b r = beltsByName (planOf b) (idsOf r)
-
-unfoldable pub marksOf : List ℕ → List Bool
-marksOf es = map (λ (e : ℕ). mem e es) (upto 0 2048)
-
-abbrev pub marked : List Bool → ℕ → Bool
-marked on e = getD on e false
 
 abbrev pub sheetIn : List ℕ → Sheet
 sheetIn h = record { route = packed (beltsOn h); cost = costOn h; setting = settingOn h }
@@ -106,12 +112,55 @@ abbrev pub gatheredIn : List ℕ → ℕ → List ℕ → ℕ
 gatheredIn places m [] = m
 gatheredIn places m (e ∷ es) = gatheredIn places (withPlace m (placeIn places e)) es
 
-unfoldable pub exitsOf : List ℕ → List ℕ
-exitsOf b = map (λ (u : ℕ). gatheredIn (namedPlaces b) 0 (namesOf (leaving (planOf b) u))) (upto 0 257)
+pub record Placeable (places : List ℕ) (r : Route) : Type 0 where
+  pub few : r .count ≤ 255
+  pub low : (e : ℕ) → List·Memᴰ e (idsOf r) → (e < 2048) × LowPlace (placeIn places e)
 
-abbrev pub relaxedAs : Option (List Belt) → Relaxed
-relaxedAs none = record { found = false; route = packed []; cost = 0 }
-relaxedAs (some r) = record { found = true; route = packed (namesOf r); cost = cost r }
+abbrev pub maskOf : List ℕ → List ℕ → ℕ
+maskOf b es = gatheredIn (namedPlaces b) 0 es
+
+abbrev pub hasBelt : List ℕ → ℕ → ℕ → Bool
+hasBelt b m e = inMask m (placeOf (named (planOf b)) e)
+
+unfoldable pub exitsOf : List ℕ → List ℕ
+exitsOf b = map (λ (u : ℕ). maskOf b (namesOf (leaving (planOf b) u))) (upto 0 257)
+
+abbrev pub noRelaxed : Relaxed
+noRelaxed = record { found = false; route = packed []; cost = 0; named = 0 }
+
+abbrev pub relaxedAs : List ℕ → Option (List Belt) → Relaxed
+relaxedAs b none = noRelaxed
+relaxedAs b (some r) = record { found = true; route = packed (namesOf r); cost = cost r; named = maskOf b (namesOf r) }
+
+-- ---- clauses
+
+abbrev pub codeBy : ℕ → Bool → ℕ
+codeBy variable true = 2 * variable + 1
+codeBy variable false = 2 * variable
+
+abbrev pub codeIn : List ℕ → Literal → ℕ
+codeIn places (OfBelt e wanted) = codeBy (getD places (e .0) 0 - 1) wanted
+codeIn places (OfMode m wanted) = codeBy (47 + m .0) wanted
+
+abbrev pub ruleEntry : List ℕ → ℕ → ℕ
+ruleEntry b r = nextRule b r + 65536 * firstLiteral b r
+
+abbrev pub literalEntry : List ℕ → ℕ → ℕ
+literalEntry b l = nextLiteral b l + 65536 * codeIn (namedPlaces b) (literalAt b l)
+
+-- by whether the record is a rule, and whether it is a literal
+abbrev pub entryBy : Bool → Bool → ℕ → ℕ → ℕ
+entryBy true t rule literal = rule
+entryBy false true rule literal = literal
+entryBy false false rule literal = 0
+
+-- kind 3 is a rule, kind 4 a literal
+unfoldable pub entryOf : List ℕ → ℕ → ℕ
+entryOf b zero = firstRule b
+entryOf b (suc i) = entryBy (eqb (kind b (suc i)) 3) (eqb (kind b (suc i)) 4) (ruleEntry b (suc i)) (literalEntry b (suc i))
+
+unfoldable pub clausesOf : List ℕ → List ℕ
+clausesOf b = map (entryOf b) (upto 0 2048)
 
 -- ---- the sheet check
 

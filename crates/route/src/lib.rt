@@ -4,10 +4,12 @@
 //   rules   whether every rule is met by a route under a setting of the modes
 //   modes   the lowest setting that meets every rule
 //   masks   sets of named belts
+//   clauses the chains of rules and literals as numbers, decoded once
 //   relax   the relaxed route of a subproblem
 //   sheet   route sheets, written and read
 //   check   the check of a sheet: lines 1 to 8 and 11 to 14 of the refusal table
 pub mod check;
+pub mod clauses;
 pub mod masks;
 pub mod modes;
 pub mod path;

@@ -1,5 +1,4 @@
 // The lowest setting of the modes that meets every rule. In a setting mode m counts 2^(m-1).
-use crate::path::Route;
 use crate::rules;
 use plan::read;
 use plan::read::ModeId;
@@ -8,8 +7,8 @@ ghost use Prim.Native.Nat.{_+_, _^_, _≤_};
 ghost use Rattle.plan.specs.Lists.{run};
 ghost use Rattle.plan.specs.Plan.{planOf};
 ghost use Rattle.plan.specs.Reading.{Accepted};
-ghost use Rattle.route.specs.Permission.{passes, allMet, find, lowest};
-ghost use Rattle.route.specs.Values.{Known, routeIn, marked, settingIn};
+ghost use Rattle.route.specs.Permission.{allMet, find, lowest};
+ghost use Rattle.route.specs.Values.{settingIn, OfNamed, hasBelt, clausesOf};
 
 // The lowest setting that works, or that none does.
 pub enum Lowest {
@@ -17,42 +16,42 @@ pub enum Lowest {
     Nothing,
 }
 
-// Settles the modes from this one down to 1, the higher ones being as `setting` has them: the lowest setting that works.
-// ModeId(0) says that no mode is left.
-fn settle(p: &[u8], on: &[bool; 2048], mode: ModeId, setting: u16) -> Lowest
-    requires { ⌜ Accepted (now p) × (mode .0 ≤ 10) × (setting + 2 ^ mode .0 ≤ 1024) ⌝ }
-    ensures { λ v. ⌜ settingIn v ≡ find (allMet (planOf (now (p .entry)) .rules) (marked (now (on .entry)))) (run setting (2 ^ mode .0)) ⌝ }
+// Settles the modes from this one down to 1, the higher ones being as `setting` has them: the lowest setting that works, where the named belts of
+// the mask `belts` are on the route. ModeId(0) says that no mode is left.
+fn settle(p: &[u8], clauses: &[u32; 2048], belts: u64, mode: ModeId, setting: u16) -> Lowest
+    requires { ⌜ Accepted (now p) × (now clauses ≡ clausesOf (now p)) × OfNamed (now p) belts × (mode .0 ≤ 10) × (setting + 2 ^ mode .0 ≤ 1024) ⌝ }
+    ensures { λ v. ⌜ settingIn v ≡ find (allMet (planOf (now (p .entry)) .rules) (hasBelt (now (p .entry)) belts)) (run setting (2 ^ mode .0)) ⌝ }
 {
     if mode.0 == 0 {
-        if rules::all_met(p, on, setting) {
+        if rules::all_met(p, clauses, belts, setting) {
             Lowest::Works(setting)
         } else {
             Lowest::Nothing
         }
     } else {
-        try_both(p, on, mode, setting)
+        try_both(p, clauses, belts, mode, setting)
     }
 }
 
 // Tries both positions of a mode, off before on.
-fn try_both(p: &[u8], on: &[bool; 2048], mode: ModeId, setting: u16) -> Lowest
-    requires { ⌜ Accepted (now p) × (1 ≤ mode .0) × (mode .0 ≤ 10) × (setting + 2 ^ mode .0 ≤ 1024) ⌝ }
-    ensures { λ v. ⌜ settingIn v ≡ find (allMet (planOf (now (p .entry)) .rules) (marked (now (on .entry)))) (run setting (2 ^ mode .0)) ⌝ }
+fn try_both(p: &[u8], clauses: &[u32; 2048], belts: u64, mode: ModeId, setting: u16) -> Lowest
+    requires { ⌜ Accepted (now p) × (now clauses ≡ clausesOf (now p)) × OfNamed (now p) belts × (1 ≤ mode .0) × (mode .0 ≤ 10) × (setting + 2 ^ mode .0 ≤ 1024) ⌝ }
+    ensures { λ v. ⌜ settingIn v ≡ find (allMet (planOf (now (p .entry)) .rules) (hasBelt (now (p .entry)) belts)) (run setting (2 ^ mode .0)) ⌝ }
 {
     let lower = mode.0 - 1;
     let with_mode = setting + (1u16 << lower);
-    let off = settle(p, on, ModeId(lower), setting);
+    let off = settle(p, clauses, belts, ModeId(lower), setting);
     match off {
         Lowest::Works(low) => Lowest::Works(low),
-        Lowest::Nothing => settle(p, on, ModeId(lower), with_mode),
+        Lowest::Nothing => settle(p, clauses, belts, ModeId(lower), with_mode),
     }
 }
 
-// The lowest setting under which the route meets every rule: the rule test of a route.
-pub fn lowest_setting(p: &[u8], route: Route) -> Lowest
-    requires { ⌜ Accepted (now p) × Known (now p) route ⌝ }
-    ensures { λ v. ⌜ settingIn v ≡ lowest (planOf (now (p .entry)) .rules) (planOf (now (p .entry)) .modes) (passes (routeIn (now (p .entry)) route)) ⌝ }
+// The lowest setting under which every rule is met, where the named belts of the mask `belts` are on the route (masks::on_route): the rule test of
+// a route. `clauses` are those of the plan (clauses::of_plan).
+pub fn lowest_setting(p: &[u8], clauses: &[u32; 2048], belts: u64) -> Lowest
+    requires { ⌜ Accepted (now p) × (now clauses ≡ clausesOf (now p)) × OfNamed (now p) belts ⌝ }
+    ensures { λ v. ⌜ settingIn v ≡ lowest (planOf (now (p .entry)) .rules) (planOf (now (p .entry)) .modes) (hasBelt (now (p .entry)) belts) ⌝ }
 {
-    let on = rules::marks(route);
-    settle(p, &on, ModeId(read::modes(p) as u16), 0)
+    settle(p, clauses, belts, ModeId(read::modes(p) as u16), 0)
 }

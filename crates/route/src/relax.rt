@@ -18,7 +18,6 @@ use plan::read::BeltId;
 ghost use mathlib.Core.Path.{_≡_};
 ghost use Prim.Native.Nat.{ℕ, _≤_, _<_};
 ghost use mathlib.Core.Bool.{true, false, not, _||_};
-ghost use mathlib.Core.Option.{none};
 ghost use lib.ListN.{getD};
 ghost use lib.Dec.{ltb};
 ghost use Rattle.plan.specs.Lists.{any, upto};
@@ -27,7 +26,7 @@ ghost use Rattle.plan.specs.Adjacency.{arcHead, arcName, arcsOf, endsOf};
 ghost use Rattle.plan.specs.Reading.{Accepted};
 ghost use Rattle.route.specs.Routes.{wrongEnds, costLimit};
 ghost use Rattle.route.specs.Subproblems.{relaxed};
-ghost use Rattle.route.specs.Values.{inMask, LowPlace, OfNamed, subproblemIn, namedPlaces, gatheredIn, exitsOf, relaxedAs};
+ghost use Rattle.route.specs.Values.{inMask, LowPlace, OfNamed, subproblemIn, namedPlaces, gatheredIn, exitsOf, noRelaxed, relaxedAs};
 ghost use Rattle.route.specs.Inner.{Lent, isRequired, arcBelt, wayOver, preferred, noWay, wayBy, wayIn, wayCost, Guides, joinedIn};
 
 // A subproblem: masks over the named belts of the plan, bit k for the belt at place k among them.
@@ -36,11 +35,12 @@ pub struct Fixings {
     pub forbidden: u64,
 }
 
-// A relaxed route and its cost, or that there is none; then the route is empty and costs 0.
+// A relaxed route, its cost and the named belts on it as a mask, or that there is none; then the route is empty, and both are 0.
 pub struct Relaxed {
     pub found: bool,
     pub route: Route,
     pub cost: u64,
+    pub named: u64,
 }
 
 // The cost of a way that is not there: no route costs as much.
@@ -233,17 +233,19 @@ fn ways_to(
 }
 
 // The walk forward, from s where there is a way on: the route that it is.
-fn walk(p: &[u8], fixings: Fixings, ways: Ways, s: usize, t: usize) -> Relaxed
-    requires { ⌜ Accepted (now p) × (1 ≤ s) × (t ≤ planOf (now p) .junctions) × (ways .cost ≡ costLimit → ⊥) × (ways .cost ≡ wayCost (wayIn (now p) fixings t s)) × Guides (now p) fixings t s (ways .firsts) ⌝ }
-    ensures { λ v. ⌜ v ≡ relaxedAs (wayIn (now (p .entry)) fixings t s) ⌝ }
+fn walk(p: &[u8], places: &[u8; 2048], fixings: Fixings, ways: Ways, s: usize, t: usize) -> Relaxed
+    requires { ⌜ Accepted (now p) × (now places ≡ namedPlaces (now p)) × (1 ≤ s) × (t ≤ planOf (now p) .junctions) × (ways .cost ≡ costLimit → ⊥) × (ways .cost ≡ wayCost (wayIn (now p) fixings t s)) × Guides (now p) fixings t s (ways .firsts) ⌝ }
+    ensures { λ v. ⌜ v ≡ relaxedAs (now (p .entry)) (wayIn (now (p .entry)) fixings t s) ⌝ }
 {
     let mut belts = [BeltId(0); 255];
     let mut count = 0;
+    let mut seen = 0u64;
     let mut at = s;
     while at != t {
         let belt = ways.firsts[at];
         belts[count] = belt;
         count += 1;
+        seen = masks::with(seen, named::place_of(places, belt));
         at = read::leads_to(p, belt);
     }
     Relaxed {
@@ -253,6 +255,7 @@ fn walk(p: &[u8], fixings: Fixings, ways: Ways, s: usize, t: usize) -> Relaxed
             belts: belts,
         },
         cost: ways.cost,
+        named: seen,
     }
 }
 
@@ -272,7 +275,7 @@ fn inside(exits: &[u64; 257], s: usize, t: usize) -> u64
 
 // No relaxed route.
 fn nothing() -> Relaxed
-    ensures { λ v. ⌜ v ≡ relaxedAs none ⌝ }
+    ensures { λ v. ⌜ v ≡ noRelaxed ⌝ }
 {
     Relaxed {
         found: false,
@@ -281,6 +284,7 @@ fn nothing() -> Relaxed
             belts: [BeltId(0); 255],
         },
         cost: 0,
+        named: 0,
     }
 }
 
@@ -296,7 +300,7 @@ pub fn relaxed_route(
     fixings: Fixings,
 ) -> Relaxed
     requires { ⌜ Accepted (now p) × (now places ≡ namedPlaces (now p)) × (now ends ≡ endsOf (planOf (now p))) × (now arcs ≡ arcsOf (planOf (now p))) × (now exits ≡ exitsOf (now p)) × (wrongEnds (planOf (now p)) (trip .s) (trip .t) ≡ false) × OfNamed (now p) (fixings .required) ⌝ }
-    ensures { λ v. ⌜ v ≡ relaxedAs (relaxed (planOf (now (p .entry))) (trip .s) (trip .t) (subproblemIn (now (p .entry)) fixings)) ⌝ }
+    ensures { λ v. ⌜ v ≡ relaxedAs (now (p .entry)) (relaxed (planOf (now (p .entry))) (trip .s) (trip .t) (subproblemIn (now (p .entry)) fixings)) ⌝ }
 {
     let s = trip.s as usize;
     let t = trip.t as usize;
@@ -307,7 +311,7 @@ pub fn relaxed_route(
     if ways.cost == NO_WAY {
         return nothing();
     }
-    walk(p, fixings, ways, s, t)
+    walk(p, places, fixings, ways, s, t)
 }
 
 // The named belts that leave junction u, as a mask.

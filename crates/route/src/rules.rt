@@ -1,55 +1,45 @@
-// The rule test: whether every rule of a plan is met by a route under a setting of the modes.
+// The rule test: whether every rule of a plan is met by a route under a setting of the modes. It goes by the clauses of the plan
+// (clauses::of_plan) and by the mask of the named belts on the route (masks::on_route), which are made once for all settings.
+use crate::clauses;
+use crate::masks;
 use crate::path::Route;
-use plan::read;
-use plan::read::Literal;
+use plan::named;
 ghost use mathlib.Core.Path.{_≡_};
+ghost use Prim.Native.Nat.{_<_};
 ghost use Rattle.plan.specs.Plan.{planOf};
 ghost use Rattle.plan.specs.Reading.{Accepted};
-ghost use Rattle.route.specs.Permission.{passes, holds, allMet};
-ghost use Rattle.route.specs.Values.{idsOf, Known, routeIn, marksOf, marked};
-ghost use Rattle.route.specs.Inner.{Low, Nameable};
+ghost use Rattle.route.specs.Permission.{passes, allMet};
+ghost use Rattle.route.specs.Values.{Known, routeIn, OfNamed, hasBelt, clausesOf};
+ghost use Rattle.route.specs.Inner.{isTrue};
 
-// For each belt index whether the route has that belt, so that a literal costs one look-up.
-pub fn marks(route: Route) -> [bool; 2048]
-    requires { ⌜ Low route ⌝ }
-    ensures { λ v. ⌜ v ≡ marksOf (idsOf route) ⌝ }
+// What mode 1 counts in a mask of variables: 2^48. The modes stand behind the places of 48 belts, in the order in which a setting has them.
+const MODE_1: u64 = 281474976710656;
+
+// Whether the literal of a code holds, under a mask of the variables that are on.
+fn is_true(on: u64, code: u32) -> bool
+    requires { ⌜ code < 128 ⌝ }
+    ensures { λ v. ⌜ v ≡ isTrue on code ⌝ }
 {
-    let mut on = [false; 2048];
-    let mut k = 0;
-    while k < route.count {
-        let belt = route.belts[k];
-        on[belt.0 as usize] = true;
-        k += 1;
-    }
-    on
+    ((on >> (code / 2)) % 2 == 1) == (code % 2 == 1)
 }
 
-// Whether a literal holds.
-fn holds(on: &[bool; 2048], setting: u16, literal: Literal) -> bool
-    requires { ⌜ Nameable literal ⌝ }
-    ensures { λ v. ⌜ v ≡ holds (marked (now (on .entry))) setting literal ⌝ }
+// Whether every rule has a literal that holds, where the named belts of the mask `belts` are on the route; a rule is left as soon as one does.
+pub fn all_met(p: &[u8], clauses: &[u32; 2048], belts: u64, setting: u16) -> bool
+    requires { ⌜ Accepted (now p) × (now clauses ≡ clausesOf (now p)) × OfNamed (now p) belts ⌝ }
+    ensures { λ v. ⌜ v ≡ allMet (planOf (now (p .entry)) .rules) (hasBelt (now (p .entry)) belts) setting ⌝ }
 {
-    match literal {
-        Literal::OfBelt(belt, wanted) => on[belt.0 as usize] == wanted,
-        Literal::OfMode(mode, wanted) => ((setting >> (mode.0 - 1)) % 2 == 1) == wanted,
-    }
-}
-
-// Whether every rule has a literal that holds; a rule is left as soon as one does.
-pub fn all_met(p: &[u8], on: &[bool; 2048], setting: u16) -> bool
-    requires { ⌜ Accepted (now p) ⌝ }
-    ensures { λ v. ⌜ v ≡ allMet (planOf (now (p .entry)) .rules) (marked (now (on .entry))) setting ⌝ }
-{
-    let mut next = read::first_rule(p);
-    'rules: while next.0 != 0 {
-        let rule = next;
-        next = read::next_rule(p, rule);
-        let mut literal = read::first_literal(p, rule);
-        while literal.0 != 0 {
-            if holds(on, setting, read::literal_of(p, literal)) {
+    let on = belts + (setting as u64) * MODE_1;
+    let mut next = clauses[0];
+    'rules: while next != 0 {
+        let rule = clauses[next as usize];
+        next = rule % 65536;
+        let mut literal = rule / 65536;
+        while literal != 0 {
+            let entry = clauses[literal as usize];
+            if is_true(on, entry / 65536) {
                 continue 'rules;
             }
-            literal = read::next_literal(p, literal);
+            literal = entry % 65536;
         }
         return false;
     }
@@ -61,6 +51,7 @@ pub fn met_by(p: &[u8], route: Route, setting: u16) -> bool
     requires { ⌜ Accepted (now p) × Known (now p) route ⌝ }
     ensures { λ v. ⌜ v ≡ allMet (planOf (now (p .entry)) .rules) (passes (routeIn (now (p .entry)) route)) setting ⌝ }
 {
-    let on = marks(route);
-    all_met(p, &on, setting)
+    let places = named::named_places(p);
+    let clauses = clauses::of_plan(p, &places);
+    all_met(p, &clauses, masks::on_route(&places, route), setting)
 }

@@ -2,7 +2,7 @@
 --
 -- Step 3:
 --   no-route              an answer that none is found means that there is no relaxed route
---   answered              an answer that one is found has it: it is of belts of the plan, and what is not in use is 0
+--   answered              an answer that one is found has it: it is of belts of the plan, the mask has its named ones, and what is not in use is 0
 --   judged-settles        what is done with a subproblem that was taken is what steps 3 to 6 do
 -- A whole step:
 --   step-empty, step-spent, step-goes
@@ -31,7 +31,7 @@ use Rattle.route.specs.declared.relax.Fixings.{Fixings}
 use Rattle.route.specs.declared.relax.Relaxed.{Relaxed}
 use Rattle.route.specs.Routes.{wrongEnds}
 use Rattle.route.specs.Subproblems.{Subproblem, relaxed}
-use Rattle.route.specs.Values.{idsOf, packed, Known, routeIn, subproblemIn, relaxedAs}
+use Rattle.route.specs.Values.{idsOf, packed, routeIn, subproblemIn, relaxedAs}
 use Rattle.route.proofs.ByName.{ends-junctions, ids-packed}
 use Rattle.route.proofs.Answered.{answer-claim}
 use Rattle.search.specs.declared.query.Query.{Query}
@@ -42,15 +42,15 @@ use Rattle.search.specs.declared.state.Ending.the-variants.{GoesOn, Foun
 use Rattle.search.specs.Search.{State, Turn, improves, considered, atEnd, budgeted, stepOf, step, runs, run}
 use Rattle.search.specs.Answers.{problemIn}
 use Rattle.search.specs.Values.{firstSearch, waitingIn, bestIn, stateIn, turnIn, Valid}
-use Rattle.search.specs.Inner.{endedAs, betterIn, judgedIn}
+use Rattle.search.specs.Inner.{OnRoute, endedAs, betterIn, judgedIn}
 use Rattle.search.proofs.Steps.{run-goes, run-ends}
 use Rattle.search.proofs.Holding.{Taken, Settles, compared-settles, newestOf, popped, newest-waits, first-state, first-valid}
 
 -- ---- the answer
 
-pub no-route : (o : Option (List Belt)) (w : Relaxed) → w ≡ relaxedAs o → w .found ≡ false → o ≡ none
-no-route none w e h = refl
-no-route (some r) w e h = absurd (true≢false (sym (ap (λ (v : Relaxed). v .found) e) ∙ h))
+pub no-route : (b : List ℕ) (o : Option (List Belt)) (w : Relaxed) → w ≡ relaxedAs b o → w .found ≡ false → o ≡ none
+no-route b none w e h = refl
+no-route b (some r) w e h = absurd (true≢false (sym (ap (λ (v : Relaxed). v .found) e) ∙ h))
 
 -- a route that was packed is 0 where it holds no belt
 packed-again : (r : Route) (es : List ℕ) → r ≡ packed es → r .count ≤ 255 → r ≡ packed (idsOf r)
@@ -58,17 +58,17 @@ packed-again r es e few =
     let size : r .count ≡ length es = ap (λ (v : Route). v .count) e in
     e ∙ sym (ap packed (ap idsOf e ∙ ids-packed es (omega (arith, size, few))))
 
-answer-packed : (o : Option (List Belt)) (w : Relaxed) → w ≡ relaxedAs o → w .route .count ≤ 255 → w .route ≡ packed (idsOf (w .route))
-answer-packed none w e few = packed-again (w .route) [] (ap (λ (v : Relaxed). v .route) e) few
-answer-packed (some r) w e few = packed-again (w .route) (namesOf r) (ap (λ (v : Relaxed). v .route) e) few
+answer-packed : (b : List ℕ) (o : Option (List Belt)) (w : Relaxed) → w ≡ relaxedAs b o → w .route .count ≤ 255 → w .route ≡ packed (idsOf (w .route))
+answer-packed b none w e few = packed-again (w .route) [] (ap (λ (v : Relaxed). v .route) e) few
+answer-packed b (some r) w e few = packed-again (w .route) (namesOf r) (ap (λ (v : Relaxed). v .route) e) few
 
 pub answered : {b : List ℕ} → Accepted b → Bytes b → (s t : ℕ) → wrongEnds (planOf b) s t ≡ false → (x : Subproblem) (w : Relaxed)
-    → w ≡ relaxedAs (relaxed (planOf b) s t x) → w .found ≡ true
-    → Known b (w .route) × (w .route ≡ packed (idsOf (w .route))) × (relaxed (planOf b) s t x ≡ some (routeIn b (w .route)))
+    → w ≡ relaxedAs b (relaxed (planOf b) s t x) → w .found ≡ true
+    → OnRoute b (w .named) (w .route) × (w .route ≡ packed (idsOf (w .route))) × (relaxed (planOf b) s t x ≡ some (routeIn b (w .route)))
 answered {b} ok bytes s t ends x w e h =
     let inside = ends-junctions (planOf b) s t ends in
-    let (known, is, costs, cheap) = answer-claim b ok bytes s t (inside .0) (inside .3) x w e h in
-    (known, answer-packed (relaxed (planOf b) s t x) w e (known .few), is)
+    let (known, is, costs, cheap, mask) = answer-claim b ok bytes s t (inside .0) (inside .3) x w e h in
+    (record { known = known; mask = mask }, answer-packed b (relaxed (planOf b) s t x) w e (known .few), is)
 
 -- ---- steps 3 to 6
 
@@ -77,7 +77,7 @@ module _ {b : List ℕ} (ok : Accepted b) (bytes : Bytes b) (v : Search) (size :
   abbrev of-masks : Option (List Belt)
   of-masks = relaxed (planOf b) (q .trip .s) (q .trip .t) (subproblemIn b f)
 
-  pub judged-settles : w ≡ relaxedAs of-masks
+  pub judged-settles : w ≡ relaxedAs b of-masks
       → Settles b v f q (w .route) (considered (problemIn b q) (subproblemIn b f) (stateIn b v) of-masks) (judgedIn b q f (w .route) (betterIn b w (v .found) (v .best)))
   judged-settles e = go (w .found) refl
     where
@@ -89,10 +89,10 @@ module _ {b : List ℕ} (ok : Accepted b) (bytes : Bytes b) (v : Search) (size :
 
       go : (t : Bool) → w .found ≡ t → by of-masks (t && better)
       go false h =
-          subst (λ (o : Option (List Belt)). by o false) (sym (no-route of-masks w e h)) (record { room = tt; state = refl; valid = taken .valid })
+          subst (λ (o : Option (List Belt)). by o false) (sym (no-route b of-masks w e h)) (record { room = tt; state = refl; valid = taken .valid })
       go true h =
-          let (known, rest-zero, is) = answered ok bytes (q .trip .s) (q .trip .t) ends (subproblemIn b f) w e h in
-          subst (λ (o : Option (List Belt)). by o better) (sym is) (compared-settles ok v size f taken q (w .route) known rest-zero better)
+          let (on, rest-zero, is) = answered ok bytes (q .trip .s) (q .trip .t) ends (subproblemIn b f) w e h in
+          subst (λ (o : Option (List Belt)). by o better) (sym is) (compared-settles ok v size f taken q (w .route) (on .known) rest-zero better)
 
 -- ---- a step
 

@@ -11,8 +11,7 @@
 --                     a place that was looked for, or else another
 --   picks-lowest, picks-busiest, picks-on
 --                     what each pick gives by places is the place of what it gives by belts
---   route-low         the belts of a known route can be looked up
---   route-mask        a known route passes the belts whose places are gathered from it
+--   route-mask        a known route passes the belts whose places its mask has
 --
 -- The unfixed belts are those at the unfixed places, in the same order. So whatever is chosen among the ones by their order and their counts
 -- is chosen among the others at the same position: Matched says of two choices that they are none and none, or a belt and its place.
@@ -41,13 +40,13 @@ use Rattle.plan.proofs.Reading.{belt-low}
 use Rattle.route.specs.declared.path.Route.{Route}
 use Rattle.route.specs.declared.relax.Fixings.{Fixings}
 use Rattle.route.specs.Permission.{passes, find, orElse, otherwise}
-use Rattle.route.specs.Values.{idsOf, Known, routeIn, inMask, LowPlace, fixedIn, subproblemIn, namedPlaces, gatheredIn}
+use Rattle.route.specs.Values.{idsOf, Known, routeIn, inMask, fixedIn, subproblemIn, maskOf}
 use Rattle.route.proofs.Bits.{or-set, without-set, lowest-none, lowest-set}
 use Rattle.route.proofs.ByName.{passes-names, known-route}
-use Rattle.route.proofs.Fixed.{fixed-mem, place-low, looked-up}
+use Rattle.route.proofs.Fixed.{fixed-mem}
 use Rattle.search.specs.Branching.{isFixed, unfixed, ruleCount, higher, highest, pickOf}
 use Rattle.search.specs.Values.{countsOf, pickedPlace}
-use Rattle.search.specs.Inner.{Low, unfixedAt, unfixedPlaces, atPlace, countAt}
+use Rattle.search.specs.Inner.{unfixedAt, unfixedPlaces, atPlace, countAt}
 use Rattle.search.proofs.Counting.{stands, gathered-at, counts-at}
 
 -- ---- the first place that is kept and passes
@@ -259,17 +258,10 @@ module _ {b : List ℕ} (ok : Accepted b) {r : Route} (known : Known b r) where
   belts-low : (e : ℕ) → List·Memᴰ e (idsOf r) → e < 2048
   belts-low e m = belt-low ok e (known .belts e m) .2
 
-  pub route-low : {places : List ℕ} → places ≡ namedPlaces b → Low places r
-  route-low all = record {
-    few = known .few;
-    low = λ e m. (belts-low e m, subst LowPlace (sym (looked-up b e all refl (belts-low e m))) (place-low ok e));
-  }
-
-  pub route-mask : {places : List ℕ} → places ≡ namedPlaces b → (k : ℕ) → k < length (named (planOf b))
-      → passes (routeIn b r) (getD (named (planOf b)) k 0) ≡ inMask (gatheredIn places 0 (idsOf r)) (At k)
-  route-mask all k l =
+  pub route-mask : (k : ℕ) → k < length (named (planOf b)) → passes (routeIn b r) (getD (named (planOf b)) k 0) ≡ inMask (maskOf b (idsOf r)) (At k)
+  route-mask k l =
       let e = getD (named (planOf b)) k 0 in
       passes-names (routeIn b r) e
       ∙ ap (λ (es : List Belt). mem e (namesOf es)) (known-route ok r known)
       ∙ ap (mem e) (names-back b (idsOf r))
-      ∙ sym (gathered-at (named-rises b) k l all (idsOf r) belts-low)
+      ∙ sym (gathered-at (named-rises b) k l refl (idsOf r) belts-low)

@@ -1,7 +1,7 @@
 -- What only the contracts of private functions cite; nothing that a reader has to believe.
 --
 -- Picks, by the places of the named belts:
---   Low places route      the belts of a Route can be looked up in the array of places, and have bits in a mask
+--   OnRoute b m r         the Route r is of belts of the plan b, and the mask m has its named ones
 --   beltsIn rule          the belts in a rule, as often as they are named
 --   withRule xs n m       the counts xs, one more for each of the first n places that the mask m has
 --   unfixedAt f k         the masks f do not fix the belt at place k; unfixedPlaces f n: the first n places where that is so
@@ -18,10 +18,11 @@
 --   bestOf b v            what a search that found its best route comes to
 --
 -- Assumes nothing.
-use Prim.Native.Nat.{ℕ, zero, suc, _≤_, _<_}
+use mathlib.Core.Path.{_≡_}
+use Prim.Native.Nat.{ℕ, zero, suc}
 use mathlib.Core.Bool.{Bool, true, false, not, _&&_, _||_}
 use mathlib.Core.Option.{Option, none, some}
-use mathlib.Core.List.{List, [], _∷_, map, List·Memᴰ}
+use mathlib.Core.List.{List, [], _∷_, map}
 use lib.ListN.{getD}
 use lib.Dec.{ltb}
 use Rattle.plan.specs.declared.named.Place.{Place}
@@ -29,11 +30,11 @@ use Rattle.plan.specs.declared.named.Place.the-variants.{At, Unnamed}
 use Rattle.plan.specs.declared.read.Literal.{Literal}
 use Rattle.plan.specs.declared.read.Literal.the-variants.{OfBelt, OfMode}
 use Rattle.plan.specs.Lists.{counted, keep, upto}
-use Rattle.plan.specs.Plan.{planOf, named, placeIn}
+use Rattle.plan.specs.Plan.{planOf, named}
 use Rattle.route.specs.declared.path.Route.{Route}
 use Rattle.route.specs.declared.relax.Fixings.{Fixings}
 use Rattle.route.specs.declared.relax.Relaxed.{Relaxed}
-use Rattle.route.specs.Values.{idsOf, routeIn, inMask, withPlace, LowPlace, subproblemIn}
+use Rattle.route.specs.Values.{idsOf, Known, routeIn, inMask, withPlace, subproblemIn, maskOf}
 use Rattle.search.specs.declared.query.Query.{Query}
 use Rattle.search.specs.declared.state.Search.{Search}
 use Rattle.search.specs.declared.state.Ending.{Ending}
@@ -47,9 +48,9 @@ use Rattle.search.specs.Values.{pickedPlace, bestIn}
 
 -- ---- picks
 
-pub record Low (places : List ℕ) (r : Route) : Type 0 where
-  pub few : r .count ≤ 255
-  pub low : (e : ℕ) → List·Memᴰ e (idsOf r) → (e < 2048) × LowPlace (placeIn places e)
+pub record OnRoute (b : List ℕ) (m : ℕ) (r : Route) : Type 0 where
+  pub known : Known b r
+  pub mask : m ≡ maskOf b (idsOf r)
 
 abbrev pub beltsIn : List Literal → List ℕ
 beltsIn [] = []

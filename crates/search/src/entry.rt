@@ -8,6 +8,8 @@ use crate::state::Search;
 use plan::adjacency;
 use plan::check::Verdict;
 use plan::named;
+use route::clauses;
+use route::masks;
 use route::modes;
 use route::modes::Lowest;
 use route::path;
@@ -22,7 +24,7 @@ ghost use Rattle.plan.specs.Plan.{planOf};
 ghost use Rattle.plan.specs.Reading.{Accepted};
 ghost use Rattle.plan.specs.Refusals.{numberOf};
 ghost use Rattle.route.specs.Routes.{wrongEnds};
-ghost use Rattle.route.specs.Values.{settingIn};
+ghost use Rattle.route.specs.Values.{settingIn, namedPlaces, clausesOf};
 ghost use Rattle.search.specs.Answers.{orZero, unlessRefused, outcome, reply, replyOf, Told};
 ghost use Rattle.search.specs.Values.{requestOf, Valid};
 ghost use Rattle.search.specs.Inner.{bestOf};
@@ -86,16 +88,22 @@ fn setting_of(lowest: Lowest) -> u16
     }
 }
 
-// Writes the sheet of the best route of a search that has found it, and answers its length.
-fn write_best(p: &[u8], search: Search, out: &mut [u8]) -> Answer
-    requires { ⌜ Accepted (now p) × Valid (now p) search × (3072 ≤ length (now out)) ⌝ }
+// Writes the sheet of the best route of a search that has found it, and answers its length. `places` and `clauses` are those of the plan.
+fn write_best(
+    p: &[u8],
+    places: &[u8; 2048],
+    clauses: &[u32; 2048],
+    search: Search,
+    out: &mut [u8],
+) -> Answer
+    requires { ⌜ Accepted (now p) × (now places ≡ namedPlaces (now p)) × (now clauses ≡ clausesOf (now p)) × Valid (now p) search × (3072 ≤ length (now out)) ⌝ }
     ensures { λ v. ⌜ Told (replyOf v) (now (out .entry)) (now (out .exit)) (bestOf (now (p .entry)) search) ⌝ }
 {
     let route = search.best;
     let sheet = Sheet {
         route: route,
         cost: path::cost(p, route),
-        setting: setting_of(modes::lowest_setting(p, route)),
+        setting: setting_of(modes::lowest_setting(p, clauses, masks::on_route(places, route))),
     };
     let length = sheet::write(out, sheet);
     Answer::Found(search.opened, length)
@@ -110,12 +118,13 @@ fn find_route(p: &[u8], query: Query, out: &mut [u8]) -> Answer
     let mut arcs = [0u64; 2048];
     let ends = adjacency::decode(p, &mut arcs);
     let exits = relax::exits(p, &places, &ends, &arcs);
+    let clauses = clauses::of_plan(p, &places);
     let counts = pick::rule_counts(p, &places);
-    let stepped = run::run(p, &places, &ends, &arcs, &exits, counts, query);
+    let stepped = run::run(p, &places, &ends, &arcs, &exits, &clauses, counts, query);
     let search = stepped.search;
     let ending = stepped.ending;
     match ending {
-        Ending::Found => write_best(p, search, out),
+        Ending::Found => write_best(p, &places, &clauses, search, out),
         Ending::Nothing => Answer::Nothing(search.opened),
         Ending::Spent => Answer::Spent(search.opened),
         Ending::GoesOn => Answer::Spent(search.opened),

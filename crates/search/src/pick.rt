@@ -5,7 +5,6 @@ use plan::read;
 use plan::read::Literal;
 use plan::read::RuleId;
 use route::masks;
-use route::path::Route;
 use route::relax::Fixings;
 ghost use mathlib.Core.Path.{_≡_};
 ghost use mathlib.Core.List.{head?};
@@ -14,11 +13,12 @@ ghost use lib.ListN.{getD};
 ghost use Rattle.plan.specs.Plan.{planOf, named, ruleAt};
 ghost use Rattle.plan.specs.Reading.{Accepted, IsRule};
 ghost use Rattle.plan.specs.declared.named.Place.the-variants.{At};
+ghost use Rattle.route.specs.declared.path.Route.{Route};
 ghost use Rattle.route.specs.Permission.{find, otherwise};
-ghost use Rattle.route.specs.Values.{idsOf, Known, routeIn, inMask, subproblemIn, namedPlaces, gatheredIn};
+ghost use Rattle.route.specs.Values.{routeIn, inMask, subproblemIn, namedPlaces, gatheredIn};
 ghost use Rattle.search.specs.Branching.{highest, pickOf};
 ghost use Rattle.search.specs.Values.{countsOf, pickedPlace};
-ghost use Rattle.search.specs.Inner.{Low, beltsIn, withRule, unfixedPlaces, atPlace, countAt};
+ghost use Rattle.search.specs.Inner.{OnRoute, beltsIn, withRule, unfixedPlaces, atPlace, countAt};
 
 // What the picks go by beside a subproblem and its relaxed route: how many named belts there are, and in how many rules each of them is.
 pub struct Counts {
@@ -85,21 +85,6 @@ pub fn rule_counts(p: &[u8], places: &[u8; 2048]) -> Counts
     }
 }
 
-// The named belts on a route, as a mask.
-fn on_route(places: &[u8; 2048], route: Route) -> u64
-    requires { ⌜ Low (now places) route ⌝ }
-    ensures { λ v. ⌜ v ≡ gatheredIn (now (places .entry)) 0 (idsOf route) ⌝ }
-{
-    let mut mask = 0u64;
-    let mut k = 0;
-    while k < route.count {
-        let belt = route.belts[k];
-        mask = masks::with(mask, named::place_of(places, belt));
-        k += 1;
-    }
-    mask
-}
-
 // The lowest unfixed belt in a mask: below the lowest bit that is 1 there are as many zeros as its place says.
 fn lowest_in(fixings: Fixings, count: usize, mask: u64) -> Place
     requires { ⌜ count ≤ 48 ⌝ }
@@ -148,29 +133,23 @@ fn busiest(fixings: Fixings, counts: Counts) -> Place
     Place::Unnamed
 }
 
-// The lowest unfixed belt on the route, else the lowest.
-fn lowest_on(places: &[u8; 2048], fixings: Fixings, count: usize, route: Route) -> Place
-    requires { ⌜ (count ≤ 48) × Low (now places) route ⌝ }
-    ensures { λ v. ⌜ v ≡ atPlace (otherwise (find (λ (k : ℕ). inMask (gatheredIn (now (places .entry)) 0 (idsOf route)) (At k)) (unfixedPlaces fixings count)) (head? (unfixedPlaces fixings count))) ⌝ }
+// The lowest unfixed belt in a mask, else the lowest.
+fn lowest_on(fixings: Fixings, count: usize, mask: u64) -> Place
+    requires { ⌜ count ≤ 48 ⌝ }
+    ensures { λ v. ⌜ v ≡ atPlace (otherwise (find (λ (k : ℕ). inMask mask (At k)) (unfixedPlaces fixings count)) (head? (unfixedPlaces fixings count))) ⌝ }
 {
-    let on = lowest_in(fixings, count, on_route(places, route));
+    let on = lowest_in(fixings, count, mask);
     match on {
         Place::At(k) => Place::At(k),
         Place::Unnamed => lowest(fixings, count),
     }
 }
 
-// The place of the belt picked, of a subproblem and its relaxed route; Place::Unnamed where no named belt is unfixed.
-pub fn picked(
-    p: &[u8],
-    places: &[u8; 2048],
-    counts: Counts,
-    pick: u64,
-    fixings: Fixings,
-    route: Route,
-) -> Place
-    requires { ⌜ Accepted (now p) × (now places ≡ namedPlaces (now p)) × (counts ≡ countsOf (now p)) × Known (now p) route ⌝ }
-    ensures { λ v. ⌜ v ≡ pickedPlace (named (planOf (now (p .entry)))) (pickOf pick (planOf (now (p .entry))) (subproblemIn (now (p .entry)) fixings) (routeIn (now (p .entry)) route)) ⌝ }
+// The place of the belt picked, of a subproblem and its relaxed route; Place::Unnamed where no named belt is unfixed. Of the route only its named
+// belts matter, which are handed over as a mask.
+pub fn picked(p: &[u8], counts: Counts, pick: u64, fixings: Fixings, mask: u64) -> Place
+    requires { ⌜ Accepted (now p) × (counts ≡ countsOf (now p)) ⌝ }
+    ensures { λ v. ⌜ ((route : Route) → OnRoute (now (p .entry)) mask route → v ≡ pickedPlace (named (planOf (now (p .entry)))) (pickOf pick (planOf (now (p .entry))) (subproblemIn (now (p .entry)) fixings) (routeIn (now (p .entry)) route))) ⌝ }
 {
     if pick == 0 {
         return lowest(fixings, counts.named);
@@ -178,5 +157,5 @@ pub fn picked(
     if pick == 1 {
         return busiest(fixings, counts);
     }
-    lowest_on(places, fixings, counts.named, route)
+    lowest_on(fixings, counts.named, mask)
 }

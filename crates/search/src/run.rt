@@ -17,10 +17,11 @@ pub fn run(
     ends: &[u16; 257],
     arcs: &[u64; 2048],
     exits: &[u64; 257],
+    clauses: &[u32; 2048],
     counts: Counts,
     query: Query,
 ) -> Stepped
-    requires { ⌜ Ready (now p) (now places) (now ends) (now arcs) (now exits) counts query ⌝ }
+    requires { ⌜ Ready (now p) (now places) (now ends) (now arcs) (now exits) (now clauses) counts query ⌝ }
     ensures { λ v. ⌜ (turnIn (now (p .entry)) v ≡ run (problemIn (now (p .entry)) query) (query .budget)) × Valid (now (p .entry)) (v .search) ⌝ }
 {
     let mut stepped = Stepped {
@@ -33,7 +34,7 @@ pub fn run(
             Ending::GoesOn => {
                 stepped = stepped
                     .search
-                    .step(p, places, ends, arcs, exits, counts, query);
+                    .step(p, places, ends, arcs, exits, clauses, counts, query);
             }
             Ending::Found => return stepped,
             Ending::Nothing => return stepped,

@@ -17,9 +17,10 @@ ghost use mathlib.Core.Bool.{true};
 ghost use Prim.Native.Nat.{_≤_, _<_};
 ghost use Rattle.plan.specs.declared.named.Place.the-variants.{At};
 ghost use Rattle.plan.specs.Reading.{Accepted};
-ghost use Rattle.route.specs.Values.{Known, namedPlaces};
+ghost use Rattle.route.specs.declared.path.Route.{Route};
+ghost use Rattle.route.specs.Values.{Known, OfNamed, clausesOf};
 ghost use Rattle.search.specs.Values.{countsOf, turnIn, Valid, firstSearch, noFixings, Ready, stepIn};
-ghost use Rattle.search.specs.Inner.{endedAs, childAt, betterIn, judgedIn};
+ghost use Rattle.search.specs.Inner.{OnRoute, endedAs, childAt, betterIn, judgedIn};
 
 // A search: the subproblems that wait are the first `count` of the array, the newest last; how many have been opened; and the best route
 // so far, if one is found. What is not in use is 0. It is handed on by value, and holds nothing that follows from the rest of it.
@@ -113,27 +114,28 @@ fn improves(p: &[u8], relaxed: Relaxed, found: bool, best: Route) -> bool
     path::before(p, relaxed.route, best)
 }
 
-// What becomes of a subproblem with this relaxed route: steps 4 to 6, if `better` says that there is one and it improves on the best.
+// What becomes of a subproblem whose relaxed route has the named belts of the mask: steps 4 to 6, if `better` says that there is such a route and it
+// improves on the best.
 fn judge(
     p: &[u8],
-    places: &[u8; 2048],
+    clauses: &[u32; 2048],
     counts: Counts,
     query: Query,
     fixings: Fixings,
-    route: Route,
+    mask: u64,
     better: bool,
 ) -> Judged
-    requires { ⌜ Accepted (now p) × (now places ≡ namedPlaces (now p)) × (counts ≡ countsOf (now p)) × (better ≡ true → Known (now p) route) ⌝ }
-    ensures { λ v. ⌜ v ≡ judgedIn (now (p .entry)) query fixings route better ⌝ }
+    requires { ⌜ Accepted (now p) × (now clauses ≡ clausesOf (now p)) × (counts ≡ countsOf (now p)) × (better ≡ true → OfNamed (now p) mask) ⌝ }
+    ensures { λ v. ⌜ ((route : Route) → (better ≡ true → OnRoute (now (p .entry)) mask route) → v ≡ judgedIn (now (p .entry)) query fixings route better) ⌝ }
 {
     if !better {
         return Judged::Drop;
     }
-    let setting = modes::lowest_setting(p, route);
+    let setting = modes::lowest_setting(p, clauses, mask);
     match setting {
         Lowest::Works(lowest) => Judged::Best,
         Lowest::Nothing => {
-            let place = pick::picked(p, places, counts, query.pick, fixings, route);
+            let place = pick::picked(p, counts, query.pick, fixings, mask);
             match place {
                 Place::At(k) => Judged::Branch(k),
                 Place::Unnamed => Judged::Drop,
@@ -161,8 +163,8 @@ fn child(fixings: Fixings, k: usize, required: bool) -> Fixings
 
 impl Search {
     // One step. What is lent is made once for all steps: the places of the plan's named belts (plan::named::named_places), its belts side by side
-    // (plan::adjacency::decode), the named belts that leave each junction (route::relax::exits) and the counts (pick::rule_counts). The search is
-    // changed here alone: each function that it were handed on to would copy it.
+    // (plan::adjacency::decode), the named belts that leave each junction (route::relax::exits), its rules (route::clauses::of_plan) and the counts
+    // (pick::rule_counts). The search is changed here alone: each function that it were handed on to would copy it.
     pub fn step(
         mut self,
         p: &[u8],
@@ -170,10 +172,11 @@ impl Search {
         ends: &[u16; 257],
         arcs: &[u64; 2048],
         exits: &[u64; 257],
+        clauses: &[u32; 2048],
         counts: Counts,
         query: Query,
     ) -> Stepped
-        requires { ⌜ Ready (now p) (now places) (now ends) (now arcs) (now exits) counts query × Valid (now p) self × (self .opened ≤ query .budget) ⌝ }
+        requires { ⌜ Ready (now p) (now places) (now ends) (now arcs) (now exits) (now clauses) counts query × Valid (now p) self × (self .opened ≤ query .budget) ⌝ }
         ensures { λ v. ⌜ (turnIn (now (p .entry)) v ≡ stepIn (now (p .entry)) query self) × Valid (now (p .entry)) (v .search) ⌝ }
     {
         if self.count == 0 || self.opened == query.budget {
@@ -190,7 +193,7 @@ impl Search {
         self.opened += 1;
         let relaxed = relax::relaxed_route(p, places, ends, arcs, exits, query.trip, fixings);
         let better = improves(p, relaxed, self.found, self.best);
-        let judged = judge(p, places, counts, query, fixings, relaxed.route, better);
+        let judged = judge(p, clauses, counts, query, fixings, relaxed.named, better);
         match judged {
             Judged::Drop => {}
             Judged::Best => {

@@ -74,11 +74,20 @@ fn print_written(p: &[u8], trip: Trip, sheet: Sheet)
     print_sheet(p, trip, &out, n);
 }
 
+// The lowest setting of a route.
+fn lowest_of(p: &[u8], r: Route) -> Lowest
+    requires { ⌜ Accepted (now p) × Known (now p) r ⌝ }
+{
+    let places = plan::named::named_places(p);
+    let clauses = route::clauses::of_plan(p, &places);
+    route::modes::lowest_setting(p, &clauses, route::masks::on_route(&places, r))
+}
+
 // The lowest setting of a route, and its sheet.
 fn print_setting(p: &[u8], trip: Trip, r: Route)
     requires { ⌜ Accepted (now p) × Known (now p) r ⌝ }
 {
-    let lowest = route::modes::lowest_setting(p, r);
+    let lowest = lowest_of(p, r);
     match lowest {
         Lowest::Works(setting) => {
             print_number(b" setting ", setting as u64);

@@ -8,7 +8,7 @@ use borrow.Author.Needs.{needs}
 use Rattle.plan.specs.Lists.{run}
 use Rattle.plan.specs.Plan.{planOf}
 use Rattle.route.specs.Permission.{allMet, find, otherwise}
-use Rattle.route.specs.Values.{marked, settingIn}
+use Rattle.route.specs.Values.{settingIn, hasBelt}
 use Rattle.route.proofs.Lowest.{halves, weight, settle-none, settle-both}
 use Prim.Native.Nat.{ℕ, _+_, _*_, _-_, _^_, _<_}
 use borrow.Fn.Kinds.{In}
@@ -24,14 +24,14 @@ use Rattle.route.proofs.modes.+settle+try_both.{statement}
 use Rattle.route.proofs.modes.+settle+try_both.Tie.{close}
 
 abbrev μ-settle : Measures 2 settle-kinds.ps ℕ
-μ-settle κs a = 2 * a .1 .1 .0 .0 + 1
+μ-settle κs a = 2 * a .1 .1 .1 .0 .0 + 1
 
 abbrev μ-try-both : Measures 2 try-both-kinds.ps ℕ
-μ-try-both κs a = 2 * a .1 .1 .0 .0
+μ-try-both κs a = 2 * a .1 .1 .1 .0 .0
 
 -- the test that the settings are put to
-abbrev works : List ℕ → List Bool → ℕ → Bool
-works p on = allMet (planOf p .rules) (marked on)
+abbrev works : List ℕ → ℕ → ℕ → Bool
+works p belts = allMet (planOf p .rules) (hasBelt p belts)
 
 abbrev settle-at : ℕ → In 2 settle-kinds.ps
 settle-at t = and 2 settle-kinds.ps (is 2 settle-kinds.ps μ-settle t) settle.Pre
@@ -52,7 +52,7 @@ settle-all-met-requires : (t : ℕ) → settle-lts.Need-all-met-requires (
   try-both-below t,
   try-both.Post,
 ) (settle-at t) settle.Post
-settle-all-met-requires t c κs = c .before .before .before .pre .1 .0
+settle-all-met-requires t c κs = let h = c .before .before .before .pre .1 in (h .0, h .1, h .2)
 
 settle-try-both-requires : (t : ℕ) → settle-lts.Need-try-both-requires (
   all-met-reads.Asked,
@@ -61,8 +61,8 @@ settle-try-both-requires : (t : ℕ) → settle-lts.Need-try-both-requires (
   try-both.Post,
 ) (settle-at t) settle.Post
 settle-try-both-requires t c κs =
-    let start = c .before .before .before in
-    (omega arith, (start .pre .1 .0, omega arith, omega arith, omega arith))
+    let h = c .before .before .before .pre .1 in
+    (omega arith, (h .0, h .1, h .2, omega arith, h .3, h .4))
 
 settle-returns : (t : ℕ) → settle-lts.Need-returns (
   all-met-reads.Asked,
@@ -74,7 +74,7 @@ settle-returns t c =
     let start = c .before .before .before .before .before in
     let a = start .args in
     let tested = sym (c .before .all-met .ensures) ∙ c .if2 .taken in
-    sym (settle-none (works (a .p .now) (a .on .now)) (a .mode .0) (a .setting) (c .before .before .if1 .taken) true tested)
+    sym (settle-none (works (a .p .now) (a .belts)) (a .mode .0) (a .setting) (c .before .before .if1 .taken) true tested)
 
 settle-returns-2 : (t : ℕ) → settle-lts.Need-returns-2 (
   all-met-reads.Asked,
@@ -86,7 +86,7 @@ settle-returns-2 t c =
     let start = c .before .before .before .before .before in
     let a = start .args in
     let tested = sym (c .before .all-met .ensures) ∙ c .if2 .left in
-    sym (settle-none (works (a .p .now) (a .on .now)) (a .mode .0) (a .setting) (c .before .before .if1 .taken) false tested)
+    sym (settle-none (works (a .p .now) (a .belts)) (a .mode .0) (a .setting) (c .before .before .if1 .taken) false tested)
 
 settle-returns-3 : (t : ℕ) → settle-lts.Need-returns-3 (
   all-met-reads.Asked,
@@ -99,12 +99,12 @@ settle-returns-3 t c = c .try-both .ensures
 try-both-sub-lower :
     (t : ℕ) →
     try-both-lts.Need-sub-lower (settle-below t, settle.Post) (try-both-at t) try-both.Post
-try-both-sub-lower t c = let start = c .before .before in omega (arith, start .pre .1 .1)
+try-both-sub-lower t c = let start = c .before .before in omega (arith, start .pre .1 .3)
 
 try-both-shl-with-mode :
     (t : ℕ) →
     try-both-lts.Need-shl-with-mode (settle-below t, settle.Post) (try-both-at t) try-both.Post
-try-both-shl-with-mode t c = let start = c .before .before in omega (arith, start .pre .1 .2)
+try-both-shl-with-mode t c = let start = c .before .before in omega (arith, start .pre .1 .4)
 
 try-both-add-with-mode :
     (t : ℕ) →
@@ -113,7 +113,7 @@ try-both-add-with-mode t c =
     let start = c .before .before in
     let m = start .args .mode .0 in
     let h = start .pre .1 in
-    omega (arith, h .3, halves m (h .1), weight m (h .2))
+    omega (arith, h .5, halves m (h .3), weight m (h .4))
 
 try-both-settle-requires : (t : ℕ) → try-both-lts.Need-settle-requires (
   settle-below t,
@@ -123,7 +123,7 @@ try-both-settle-requires t c κs =
     let start = c .before .before in
     let m = start .args .mode .0 in
     let h = start .pre .1 in
-    (omega (arith, h .1), (h .0, omega (arith, h .2), omega (arith, h .3, halves m (h .1))))
+    (omega (arith, h .3), (h .0, h .1, h .2, omega (arith, h .4), omega (arith, h .5, halves m (h .3))))
 
 try-both-enum-known-off :
     (t : ℕ) →
@@ -143,7 +143,7 @@ try-both-settle-requires-2 t c κs =
     let start = c .before .before .before .before .before in
     let m = start .args .mode .0 in
     let h = start .pre .1 in
-    (omega (arith, h .1), (h .0, omega (arith, h .2), omega (arith, h .3, halves m (h .1), weight m (h .2))))
+    (omega (arith, h .3), (h .0, h .1, h .2, omega (arith, h .4), omega (arith, h .5, halves m (h .3), weight m (h .4))))
 
 try-both-returns :
     (t : ℕ) →
@@ -152,9 +152,9 @@ try-both-returns t c =
     let start = c .before .before .before .before .before .before in
     let a = start .args in
     let m = a .mode .0 in
-    let f = works (a .p .now) (a .on .now) in
+    let f = works (a .p .now) (a .belts) in
     let on-half = find f (run (a .setting + 2 ^ (m - 1)) (2 ^ (m - 1))) in
-    sym (settle-both f m (a .setting) (start .pre .1 .1)
+    sym (settle-both f m (a .setting) (start .pre .1 .3)
     ∙ ap (λ (o : Option ℕ). otherwise o on-half) (sym (c .before .before .before .settle .ensures) ∙ ap settingIn (c .before .off .given .1)))
 
 try-both-returns-2 :
@@ -164,11 +164,11 @@ try-both-returns-2 t c =
     let start = c .before .before .before .before .before .before in
     let a = start .args in
     let m = a .mode .0 in
-    let f = works (a .p .now) (a .on .now) in
+    let f = works (a .p .now) (a .belts) in
     let on-half = find f (run (a .setting + 2 ^ (m - 1)) (2 ^ (m - 1))) in
     c .settle2 .ensures
-    ∙ ap (λ (w : ℕ). find f (run (a .setting + w) (2 ^ (m - 1)))) (weight m (start .pre .1 .2))
-    ∙ sym (settle-both f m (a .setting) (start .pre .1 .1)
+    ∙ ap (λ (w : ℕ). find f (run (a .setting + w) (2 ^ (m - 1)))) (weight m (start .pre .1 .4))
+    ∙ sym (settle-both f m (a .setting) (start .pre .1 .3)
     ∙ ap (λ (o : Option ℕ). otherwise o on-half) (sym (c .before .before .before .settle .ensures) ∙ ap settingIn (c .before .enum-told .given .1)))
 
 pub +settle+try-both-spec : {M : Type 1} → statement M

@@ -63,7 +63,7 @@ returns c =
     let from = start past in
     let a = from .args in
     c .nothing .ensures
-    ∙ ap relaxedAs (sym (unowed-relaxed (from .pre .0) (sub past) (a .trip .t) (a .trip .s) (fixed-belt (from .pre .0) (a .fixings .required)) (λ owed.
+    ∙ ap (relaxedAs _) (sym (unowed-relaxed (from .pre .0) (sub past) (a .trip .t) (a .trip .s) (fixed-belt (from .pre .0) (a .fixings .required)) (λ owed.
     c .before .if1 .taken (tested past ∙ owed-inside (from .pre .0) (a .fixings) (a .trip .s) (a .trip .t) (top from) (from .pre .6) owed))))
 
 ways-to-requires : tie.Need-ways-to-requires
@@ -83,18 +83,18 @@ returns-2 c =
     let a = from .args in
     let lost = way-lost (from .pre .0) (λ i. past .before .shared-slice-known .given i .fits) (sub past) (a .trip .t) (ends from .3) (a .trip .s)
     (sym (found .ways-to .ensures .0) ∙ c .before .if2 .taken) in
-    c .nothing2 .ensures ∙ ap relaxedAs (sym lost ∙ whole past (found .before .if1 .left))
+    c .nothing2 .ensures ∙ ap (relaxedAs _) (sym lost ∙ whole past (found .before .if1 .left))
 
 walk-requires : tie.Need-walk-requires
 walk-requires c κs =
     let found = c .before .before in
     let from = start (found .before .before .before .before) in
-    (from .pre .0, ends from .0, ends from .3, c .if2 .left, found .ways-to .ensures .0, found .ways-to .ensures .1)
+    (from .pre .0, from .pre .1, ends from .0, ends from .3, c .if2 .left, found .ways-to .ensures .0, found .ways-to .ensures .1)
 
 returns-3 : tie.Need-returns-3
 returns-3 c =
     let found = c .before .before .before in
-    c .walk .ensures ∙ ap relaxedAs (whole (found .before .before .before .before) (found .before .if1 .left))
+    c .walk .ensures ∙ ap (relaxedAs _) (whole (found .before .before .before .before) (found .before .if1 .left))
 
 pub relaxed-route-spec : {M : Type 1} → statement M
 relaxed-route-spec =

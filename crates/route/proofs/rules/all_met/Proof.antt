@@ -1,146 +1,185 @@
 -- `route::rules::all_met` meets its contract: the rules from `next` on decide as all do, and of a rule the literals from `literal` on.
 -- Assumes nothing.
-use mathlib.Core.Path.{sym, ap, _∙_}
-use Prim.Native.Nat.{ℕ}
-use borrow.Author.Needs.{needs}
-use lib.ListN.{length}
-use Rattle.plan.specs.Reading.{rulesFrom, literalsFrom}
-use Rattle.route.specs.Permission.{met}
-use Rattle.route.specs.Values.{marked}
+use mathlib.Core.Path.{_≡_, sym, ap, _∙_}
+use Prim.Native.Nat.{ℕ, _/_, _%_, _<_}
+use native.Mathlib.Omega.{arith}
+use lib.ListN.{length, getD}
+use Rattle.plan.specs.Plan.{literalAt}
+use Rattle.plan.specs.Reading.{IsRule, IsLiteral, nextRule, firstLiteral, nextLiteral, rulesFrom, literalsFrom}
+use Rattle.route.specs.Permission.{holds, met}
+use Rattle.route.specs.Values.{namedPlaces, hasBelt, codeIn}
+use Rattle.route.specs.Inner.{isTrue}
+use Rattle.route.proofs.Codes.{assigned, assigned-fits, codable-low, literal-codable, literal-true}
 use Rattle.route.proofs.Ahead as ahead
+use Rattle.route.proofs.Entries.{rule-low, literal-low, first-entry, rule-parts, literal-parts}
 use Rattle.route.proofs.rules.all_met.Statement.{statement}
 use Rattle.route.proofs.rules.all_met.Tie as tie
 
 abbrev Inv-loop : tie.InvT-loop
-Inv-loop p on setting next literal₀ literal = ahead.LiteralsAhead p (marked on) setting (literal₀ .0) (literal .0)
+Inv-loop p clauses belts setting on next rule literal₀ literal = ahead.LiteralsAhead p (hasBelt p belts) setting literal₀ literal
 
 abbrev μ-loop : tie.MeasureT-loop
-μ-loop p on setting next literal₀ literal = length (literalsFrom p (literal .0))
+μ-loop p clauses belts setting on next rule literal₀ literal = length (literalsFrom p literal)
 
 abbrev Inv-rules : tie.InvT-rules
-Inv-rules p on setting next₀ next = ahead.RulesAhead p (marked on) setting (next .0)
+Inv-rules p clauses belts setting on next₀ next = ahead.RulesAhead p (hasBelt p belts) setting next
 
 abbrev μ-rules : tie.MeasureT-rules
-μ-rules p on setting next₀ next = length (rulesFrom p (next .0))
+μ-rules p clauses belts setting on next₀ next = length (rulesFrom p next)
 
-first-rule-requires : tie.Need-first-rule-requires Inv-loop μ-loop Inv-rules μ-rules
-first-rule-requires c κs = search needs
+mul-on : tie.Need-mul-on Inv-loop μ-loop Inv-rules μ-rules
+mul-on c = omega arith
+
+add-on : tie.Need-add-on Inv-loop μ-loop Inv-rules μ-rules
+add-on c =
+    let start = c .before in
+    omega (arith, assigned-fits (start .pre .0) (start .pre .2) (start .args .setting) (omega arith))
+
+element-copy-out-next : tie.Need-element-copy-out-next Inv-loop μ-loop Inv-rules μ-rules
+element-copy-out-next c = omega arith
 
 rules-holds : tie.Need-rules-holds Inv-loop μ-loop Inv-rules μ-rules
 rules-holds c =
     let start = c .before .before in
-    ahead.rules-first (start .pre) (marked (start .args .on .now)) (start .args .setting) _ (c .first-rule .ensures)
+    let on = hasBelt (start .args .p .now) (start .args .belts) in
+    ahead.rules-first (start .pre .0) on (start .args .setting) _ (first-entry (start .pre .0) (start .pre .1))
 
-next-rule-requires : tie.Need-next-rule-requires Inv-loop μ-loop Inv-rules μ-rules
-next-rule-requires c κs =
-    let at = c .before .before in
-    (at .before .before .before .pre, at .rules .inv .0 (c .if1 .taken))
+-- the rule of a turn
+rule-is : (c : tie.In-rules Inv-loop μ-loop Inv-rules μ-rules) → IsRule (c .before .before .before .before .args .p .now) (c .before .rules .next)
+rule-is c = c .before .rules .inv .0 (c .rules-test .taken)
 
-first-literal-requires : tie.Need-first-literal-requires Inv-loop μ-loop Inv-rules μ-rules
-first-literal-requires c κs =
-    let turn = c .before in
-    let at = turn .before .before in
-    (at .before .before .before .pre, at .rules .inv .0 (turn .if1 .taken))
+in-array : (c : tie.In-rules Inv-loop μ-loop Inv-rules μ-rules) → c .before .rules .next < 2048
+in-array c = rule-low (c .before .before .before .before .pre .0) (c .before .rules .next) (rule-is c)
+
+cast-rule : tie.Need-cast-rule Inv-loop μ-loop Inv-rules μ-rules
+cast-rule c = omega (arith, in-array c)
+
+mul-rule : tie.Need-mul-rule Inv-loop μ-loop Inv-rules μ-rules
+mul-rule c = omega (arith, in-array c)
+
+element-copy-out-rule : tie.Need-element-copy-out-rule Inv-loop μ-loop Inv-rules μ-rules
+element-copy-out-rule c = in-array c
+
+-- the two parts of its entry
+parts : (c : tie.In-rules Inv-loop μ-loop Inv-rules μ-rules) →
+    let a = c .before .before .before .before .args in
+    let r = c .before .rules .next in
+    (getD (a .clauses .now) r 0 % 65536 ≡ nextRule (a .p .now) r) × (getD (a .clauses .now) r 0 / 65536 ≡ firstLiteral (a .p .now) r)
+parts c =
+    let start = c .before .before .before .before in
+    rule-parts (start .pre .0) (start .pre .1) (c .before .rules .next) (rule-is c)
 
 loop-holds : tie.Need-loop-holds Inv-loop μ-loop Inv-rules μ-rules
 loop-holds c =
-    let turn = c .before .before in
-    let at = turn .before .before in
+    let turn = c .before in
+    let at = turn .before in
     let start = at .before .before .before in
-    let on = marked (start .args .on .now) in
-    ahead.literals-first (start .pre) on (start .args .setting) (at .rules .next .0) (at .rules .inv) (turn .if1 .taken) _ (c .first-literal .ensures)
+    let on = hasBelt (start .args .p .now) (start .args .belts) in
+    ahead.literals-first (start .pre .0) on (start .args .setting) (at .rules .next) (at .rules .inv) (turn .rules-test .taken) _ (parts turn .1)
 
-literal-of-requires : tie.Need-literal-of-requires Inv-loop μ-loop Inv-rules μ-rules
-literal-of-requires c κs =
-    let inner = c .before .before in
-    (inner .before .before .before .before .before .before .before .before .pre, inner .loop .inv .0 (c .if2 .taken))
+-- the literal of a turn
+literal-is : (c : tie.In-loop Inv-loop μ-loop Inv-rules μ-rules)
+    → IsLiteral (c .before .before .before .before .before .before .before .args .p .now) (c .before .loop .literal)
+literal-is c = c .before .loop .inv .0 (c .loop-test .taken)
 
-holds-requires : tie.Need-holds-requires Inv-loop μ-loop Inv-rules μ-rules
-holds-requires c κs =
+found : (c : tie.In-loop Inv-loop μ-loop Inv-rules μ-rules) → c .before .loop .literal < 2048
+found c = literal-low (c .before .before .before .before .before .before .before .pre .0) (c .before .loop .literal) (literal-is c)
+
+cast-entry : tie.Need-cast-entry Inv-loop μ-loop Inv-rules μ-rules
+cast-entry c = omega (arith, found c)
+
+mul-entry : tie.Need-mul-entry Inv-loop μ-loop Inv-rules μ-rules
+mul-entry c = omega (arith, found c)
+
+element-copy-out-entry : tie.Need-element-copy-out-entry Inv-loop μ-loop Inv-rules μ-rules
+element-copy-out-entry c = found c
+
+-- the two parts of its entry
+halves : (c : tie.In-loop Inv-loop μ-loop Inv-rules μ-rules) →
+    let a = c .before .before .before .before .before .before .before .args in
+    let l = c .before .loop .literal in
+    (getD (a .clauses .now) l 0 % 65536 ≡ nextLiteral (a .p .now) l)
+    × (getD (a .clauses .now) l 0 / 65536 ≡ codeIn (namedPlaces (a .p .now)) (literalAt (a .p .now) l))
+halves c =
+    let start = c .before .before .before .before .before .before .before in
+    literal-parts (start .pre .0) (start .pre .1) (c .before .loop .literal) (literal-is c)
+
+is-true-requires : tie.Need-is-true-requires Inv-loop μ-loop Inv-rules μ-rules
+is-true-requires c κs =
     let round = c .before in
-    let inner = round .before .before in
-    let start = inner .before .before .before .before .before .before .before .before in
-    let on = marked (start .args .on .now) in
-    let first = inner .before .first-literal .result .0 in
-    let loop = inner .loop in
-    ahead.literal-nameable (start .pre) on (start .args .setting) first (loop .literal .0) (loop .inv) (round .if2 .taken) _ (c .literal-of .ensures)
+    let start = round .before .before .before .before .before .before .before in
+    let p = start .args .p .now in
+    let l = round .before .loop .literal in
+    omega (arith, halves round .1, codable-low (namedPlaces p) (literalAt p l) (literal-codable (start .pre .0) l (literal-is round)))
+
+-- whether it holds is what its code says
+said : (c : tie.After-is-true Inv-loop μ-loop Inv-rules μ-rules) →
+    let at = c .before .before .before in
+    let a = at .before .before .before .before .before .before .args in
+    holds (hasBelt (a .p .now) (a .belts)) (a .setting) (literalAt (a .p .now) (at .loop .literal)) ≡ c .is-true .result
+said c =
+    let round = c .before .before in
+    let start = round .before .before .before .before .before .before .before in
+    let a = start .args in
+    sym (literal-true (start .pre .0) (start .pre .2) (a .setting) (round .before .loop .literal) (literal-is round))
+    ∙ ap (isTrue (assigned (a .belts) (a .setting))) (sym (halves round .1))
+    ∙ sym (c .is-true .ensures)
 
 rules-less : tie.Need-rules-less Inv-loop μ-loop Inv-rules μ-rules
 rules-less c =
-    let inner = c .before .before .before .before .before in
-    let turn = inner .before .before .before in
-    let at = turn .before .before in
-    let start = at .before .before .before in
-    let on = marked (start .args .on .now) in
-    let next = inner .before .before .next-rule in
-    ahead.rules-shorter (start .pre) on (start .args .setting) (at .rules .next .0) (at .rules .inv) (turn .if1 .taken) _ (next .ensures)
+    let turn = c .before .before .before .before .before .before in
+    let at = turn .before in
+    ahead.rule-shorter (at .before .before .before .pre .0) (at .rules .next) (rule-is turn) _ (parts turn .0)
 
 rules-again : tie.Need-rules-again Inv-loop μ-loop Inv-rules μ-rules
 rules-again c =
     let round = c .before .before .before in
-    let inner = round .before .before in
-    let turn = inner .before .before .before in
-    let at = turn .before .before in
+    let inner = round .before in
+    let turn = inner .before .before in
+    let at = turn .before in
     let start = at .before .before .before in
-    let on = marked (start .args .on .now) in
+    let p = start .args .p .now in
+    let on = hasBelt p (start .args .belts) in
     let σ = start .args .setting in
-    let first = inner .before .first-literal in
-    let loop = inner .loop in
-    let said = c .before .before .literal-of in
-    let holds = sym (c .before .holds .ensures) ∙ c .if3 .taken in
-    let held = ahead.literals-held (start .pre) on σ (first .result .0) (loop .literal .0) (loop .inv) (round .if2 .taken) _ (said .ensures) holds in
-    let same = ap (λ (l : ℕ). met on σ (literalsFrom (start .args .p .now) l)) (first .ensures) in
-    let next = inner .before .before .next-rule in
-    ahead.rules-met (start .pre) on σ (at .rules .next .0) (at .rules .inv) (turn .if1 .taken) _ (next .ensures) (sym same ∙ held)
-
-next-literal-requires : tie.Need-next-literal-requires Inv-loop μ-loop Inv-rules μ-rules
-next-literal-requires c κs =
-    let round = c .before .before .before in
-    let inner = round .before .before in
-    (inner .before .before .before .before .before .before .before .before .pre, inner .loop .inv .0 (round .if2 .taken))
+    let held = ahead.literals-held (start .pre .0) on σ _ (inner .loop .literal) (inner .loop .inv) (round .loop-test .taken) (said (c .before) ∙ c .if1 .taken) in
+    let same = ap (λ (l : ℕ). met on σ (literalsFrom p l)) (parts turn .1) in
+    ahead.rules-met (start .pre .0) on σ (at .rules .next) (at .rules .inv) (turn .rules-test .taken) _ (parts turn .0) (sym same ∙ held)
 
 loop-less : tie.Need-loop-less Inv-loop μ-loop Inv-rules μ-rules
 loop-less c =
-    let round = c .before .before .before .before in
-    let inner = round .before .before in
-    let start = inner .before .before .before .before .before .before .before .before in
-    let on = marked (start .args .on .now) in
-    let first = inner .before .first-literal .result .0 in
-    let loop = inner .loop in
-    let σ = start .args .setting in
-    ahead.literals-shorter (start .pre) on σ first (loop .literal .0) (loop .inv) (round .if2 .taken) _ (c .next-literal .ensures)
+    let round = c .before .before .before in
+    let start = round .before .before .before .before .before .before .before in
+    ahead.literal-shorter (start .pre .0) (round .before .loop .literal) (literal-is round) _ (halves round .0)
 
 loop-again : tie.Need-loop-again Inv-loop μ-loop Inv-rules μ-rules
 loop-again c =
-    let round = c .before .before .before .before in
-    let inner = round .before .before in
-    let start = inner .before .before .before .before .before .before .before .before in
-    let on = marked (start .args .on .now) in
+    let round = c .before .before .before in
+    let inner = round .before in
+    let start = inner .before .before .before .before .before .before in
+    let on = hasBelt (start .args .p .now) (start .args .belts) in
     let σ = start .args .setting in
-    let first = inner .before .first-literal .result .0 in
-    let loop = inner .loop in
-    let said = c .before .before .before .literal-of in
-    let holds = sym (c .before .before .holds .ensures) ∙ c .before .if3 .left in
-    ahead.literals-missed (start .pre) on σ first (loop .literal .0) (loop .inv) (round .if2 .taken) _ (said .ensures) holds _ (c .next-literal .ensures)
+    ahead.literals-missed (start .pre .0) on σ _ (inner .loop .literal) (inner .loop .inv) (round .loop-test .taken) (said (c .before) ∙ c .if1 .left) _
+    (halves round .0)
 
 returns : tie.Need-returns Inv-loop μ-loop Inv-rules μ-rules
 returns c =
-    let inner = c .before .before in
-    let turn = inner .before .before .before in
-    let at = turn .before .before in
+    let inner = c .before in
+    let turn = inner .before .before in
+    let at = turn .before in
     let start = at .before .before .before in
-    let on = marked (start .args .on .now) in
+    let p = start .args .p .now in
+    let on = hasBelt p (start .args .belts) in
     let σ = start .args .setting in
-    let first = inner .before .first-literal in
-    let missed = ahead.literals-done (start .pre) on σ (first .result .0) (inner .loop .literal .0) (inner .loop .inv) (c .if2 .left) in
-    let same = ap (λ (l : ℕ). met on σ (literalsFrom (start .args .p .now) l)) (first .ensures) in
-    ahead.rules-unmet (start .pre) on σ (at .rules .next .0) (at .rules .inv) (turn .if1 .taken) (sym same ∙ missed)
+    let missed = ahead.literals-done (start .pre .0) on σ _ (inner .loop .literal) (inner .loop .inv) (c .loop-test .left) in
+    let same = ap (λ (l : ℕ). met on σ (literalsFrom p l)) (parts turn .1) in
+    ahead.rules-unmet (start .pre .0) on σ (at .rules .next) (at .rules .inv) (turn .rules-test .taken) (sym same ∙ missed)
 
 returns-2 : tie.Need-returns-2 Inv-loop μ-loop Inv-rules μ-rules
 returns-2 c =
-    let at = c .before .before in
+    let at = c .before in
     let start = at .before .before .before in
-    ahead.rules-done (start .pre) (marked (start .args .on .now)) (start .args .setting) (at .rules .next .0) (at .rules .inv) (c .if1 .left)
+    let on = hasBelt (start .args .p .now) (start .args .belts) in
+    ahead.rules-done (start .pre .0) on (start .args .setting) (at .rules .next) (at .rules .inv) (c .rules-test .left)
 
 pub all-met-spec : {M : Type 1} → statement M
 all-met-spec =
@@ -150,16 +189,20 @@ all-met-spec =
     μ-loop
     Inv-rules
     μ-rules
-    first-rule-requires
+    mul-on
+    add-on
+    element-copy-out-next
     rules-holds
-    next-rule-requires
-    first-literal-requires
+    cast-rule
+    mul-rule
+    element-copy-out-rule
     loop-holds
-    literal-of-requires
-    holds-requires
+    cast-entry
+    mul-entry
+    element-copy-out-entry
+    is-true-requires
     rules-less
     rules-again
-    next-literal-requires
     loop-less
     loop-again
     returns

@@ -16,6 +16,9 @@ decode-requires c κs = search needs
 exits-requires : tie.Need-exits-requires
 exits-requires c κs = search needs
 
+of-plan-requires : tie.Need-of-plan-requires
+of-plan-requires c κs = search needs
+
 rule-counts-requires : tie.Need-rule-counts-requires
 rule-counts-requires c κs = search needs
 
@@ -27,13 +30,18 @@ enum-told c = search needs
 
 -- where the run began
 abbrev begun : tie.After-run → tie.Start
-begun c = c .before .before .before .before .before .before .before .before .before .before .before .before .before .before .before .before
+begun c = c .before .before .before .before .before .before .before .before .before .before .before .before .before .before .before .before .before .before .before
+
+-- where its rules were made
+abbrev ruled : tie.After-run → tie.After-of-plan
+ruled c = c .before .before .before .before .before .before .before .before
 
 write-best-requires : tie.Need-write-best-requires
 write-best-requires c κs =
-    let ran = c .before .before .before .before in
+    let ran = c .before .before .before .before .before .before in
     let start = begun ran in
-    (start .pre .0, ran .run .ensures .1, start .pre .2)
+    let places = ran .before .before .before .before .before .before .before .before .before .before .before .before .before .before .before .before .named-places .ensures in
+    (start .pre .0, places, ruled ran .of-plan .ensures, ran .run .ensures .1, start .pre .2)
 
 enum-told-2 : tie.Need-enum-told-2
 enum-told-2 c = search needs
@@ -50,11 +58,11 @@ same-length c = search needs
 returns : tie.Need-returns
 returns c =
     let wrote = c .before .before in
-    let told = wrote .before .before in
+    let told = wrote .before .before .before .before in
     let ran = told .before .before .before in
     let start = begun ran in
     let out = start .args .out .now in
-    subst (Told (replyOf (wrote .write-best .result)) out (wrote .write-best .last .1 .1 .0))
+    subst (Told (replyOf (wrote .write-best .result)) out (wrote .write-best .last .1 .1 .1 .1 .0))
     (turn-found (start .args .p .now) (start .args .query) (ran .run .result) (ran .run .ensures .0) out (told .enum-told .given .1))
     (wrote .write-best .ensures)
 
@@ -92,6 +100,7 @@ find-route-spec =
     named-places-requires
     decode-requires
     exits-requires
+    of-plan-requires
     rule-counts-requires
     run-requires
     enum-told

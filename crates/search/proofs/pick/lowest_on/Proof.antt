@@ -1,19 +1,16 @@
--- `pick::lowest_on` meets its contract: the one on the route, if there is one, else the lowest. Assumes nothing.
-use mathlib.Core.Path.{_≡_, sym, _∙_, ap}
+-- `pick::lowest_on` meets its contract: the one in the mask, if there is one, else the lowest. Assumes nothing.
+use mathlib.Core.Path.{sym, _∙_}
 use Prim.Native.Nat.{ℕ}
 use mathlib.Core.Option.{Option}
 use mathlib.Core.List.{head?}
 use borrow.Author.Needs.{needs}
 use Rattle.plan.specs.declared.named.Place.the-variants.{At}
 use Rattle.route.specs.Permission.{find}
-use Rattle.route.specs.Values.{idsOf, inMask, gatheredIn}
-use Rattle.search.specs.Inner.{unfixedPlaces, atPlace}
+use Rattle.route.specs.Values.{inMask}
+use Rattle.search.specs.Inner.{unfixedPlaces}
 use Rattle.search.proofs.Picks.{else-at, else-none}
 use Rattle.search.proofs.pick.lowest_on.Statement.{statement}
 use Rattle.search.proofs.pick.lowest_on.Tie as tie
-
-on-route-requires : tie.Need-on-route-requires
-on-route-requires c κs = search needs
 
 lowest-in-requires : tie.Need-lowest-in-requires
 lowest-in-requires c κs = search needs
@@ -27,35 +24,28 @@ enum-told c = search needs
 lowest-requires : tie.Need-lowest-requires
 lowest-requires c κs = search needs
 
--- the unfixed belt that was looked for on the route
+-- the unfixed belt that was looked for in the mask
 abbrev on : tie.After-lowest-in → Option ℕ
 on c =
-    let a = c .before .before .args in
-    find (λ (k : ℕ). inMask (gatheredIn (a .places .now) 0 (idsOf (a .route))) (At k)) (unfixedPlaces (a .fixings) (a .count))
-
-found : (c : tie.After-lowest-in) → c .lowest-in .result ≡ atPlace (on c)
-found c =
-    let a = c .before .before .args in
-    c .lowest-in .ensures
-    ∙ ap (λ (m : ℕ). atPlace (find (λ (k : ℕ). inMask m (At k)) (unfixedPlaces (a .fixings) (a .count)))) (c .before .on-route .ensures)
+    let a = c .before .args in
+    find (λ (k : ℕ). inMask (a .mask) (At k)) (unfixedPlaces (a .fixings) (a .count))
 
 returns : tie.Need-returns
 returns c =
     let looked = c .before .before .before in
-    let a = looked .before .before .args in
-    else-at (on looked) (head? (unfixedPlaces (a .fixings) (a .count))) (c .before .on .given .0 .0) (sym (found looked) ∙ c .before .on .given .1)
+    let a = looked .before .args in
+    else-at (on looked) (head? (unfixedPlaces (a .fixings) (a .count))) (c .before .on .given .0 .0) (sym (looked .lowest-in .ensures) ∙ c .before .on .given .1)
 
 returns-2 : tie.Need-returns-2
 returns-2 c =
     let looked = c .before .before .before in
-    let a = looked .before .before .args in
-    c .lowest .ensures ∙ else-none (on looked) (head? (unfixedPlaces (a .fixings) (a .count))) (sym (found looked) ∙ c .before .enum-told .given .1)
+    let a = looked .before .args in
+    c .lowest .ensures ∙ else-none (on looked) (head? (unfixedPlaces (a .fixings) (a .count))) (sym (looked .lowest-in .ensures) ∙ c .before .enum-told .given .1)
 
 pub lowest-on-spec : {M : Type 1} → statement M
 lowest-on-spec =
     tie.close
     (tie.spec
-    on-route-requires
     lowest-in-requires
     enum-known-on
     enum-told

@@ -1,5 +1,5 @@
 -- `pick::picked` meets its contract: what is picked by places is picked by belts (Picks). Assumes nothing.
-use mathlib.Core.Path.{_≡_, _∙_, ap}
+use mathlib.Core.Path.{_≡_, sym, _∙_, ap}
 use Prim.Native.Nat.{ℕ, _≤_}
 use mathlib.Core.Bool.{Bool}
 use mathlib.Core.List.{head?}
@@ -9,17 +9,17 @@ use Rattle.plan.specs.declared.named.Place.the-variants.{At}
 use Rattle.plan.specs.Plan.{planOf, named}
 use Rattle.plan.proofs.Reading.{named-few}
 use Rattle.route.specs.Permission.{find, otherwise}
-use Rattle.route.specs.Values.{idsOf, routeIn, inMask, gatheredIn}
+use Rattle.route.specs.Values.{routeIn, inMask}
 use Rattle.search.specs.declared.pick.Counts.{Counts}
 use Rattle.search.specs.Branching.{highest}
 use Rattle.search.specs.Inner.{unfixedPlaces, atPlace, countAt}
-use Rattle.search.proofs.Picks.{picks-lowest, picks-busiest, picks-on, route-low, route-mask}
+use Rattle.search.proofs.Picks.{picks-lowest, picks-busiest, picks-on, route-mask}
 use Rattle.search.proofs.pick.picked.Statement.{statement}
 use Rattle.search.proofs.pick.picked.Tie as tie
 
 -- there are as many named belts as the counts say
 size : (c : tie.Start) → c .args .counts .named ≡ length (named (planOf (c .args .p .now)))
-size c = ap (λ (v : Counts). v .named) (c .pre .2)
+size c = ap (λ (v : Counts). v .named) (c .pre .1)
 
 few : (c : tie.Start) → c .args .counts .named ≤ 48
 few c = omega (arith, size c, named-few (c .pre .0))
@@ -28,39 +28,39 @@ lowest-requires : tie.Need-lowest-requires
 lowest-requires c κs = few (c .before .before)
 
 returns : tie.Need-returns
-returns c =
+returns c route on =
     let start = c .before .before .before in
     let a = start .args in
     let p = a .p .now in
     c .lowest .ensures
     ∙ ap (λ (n : ℕ). atPlace (head? (unfixedPlaces (a .fixings) n))) (size start)
-    ∙ picks-lowest p (a .fixings) (routeIn p (a .route)) (a .pick) (c .before .if1 .taken)
+    ∙ picks-lowest p (a .fixings) (routeIn p route) (a .pick) (c .before .if1 .taken)
 
 busiest-requires : tie.Need-busiest-requires
 busiest-requires c κs = few (c .before .before .before)
 
 returns-2 : tie.Need-returns-2
-returns-2 c =
+returns-2 c route on =
     let start = c .before .before .before .before in
     let a = start .args in
     let p = a .p .now in
     c .busiest .ensures
-    ∙ ap (λ (v : Counts). atPlace (highest (countAt (v .rules)) (unfixedPlaces (a .fixings) (v .named)))) (start .pre .2)
-    ∙ picks-busiest p (a .fixings) (routeIn p (a .route)) (a .pick) (c .before .if2 .taken)
+    ∙ ap (λ (v : Counts). atPlace (highest (countAt (v .rules)) (unfixedPlaces (a .fixings) (v .named)))) (start .pre .1)
+    ∙ picks-busiest p (a .fixings) (routeIn p route) (a .pick) (c .before .if2 .taken)
 
 lowest-on-requires : tie.Need-lowest-on-requires
-lowest-on-requires c κs = let start = c .before .before .before in (few start, route-low (start .pre .0) (start .pre .3) (start .pre .1))
+lowest-on-requires c κs = few (c .before .before .before)
 
 returns-3 : tie.Need-returns-3
-returns-3 c =
+returns-3 c route on =
     let start = c .before .before .before .before in
     let a = start .args in
     let p = a .p .now in
-    let on : ℕ → Bool = λ k. inMask (gatheredIn (a .places .now) 0 (idsOf (a .route))) (At k) in
+    let has : ℕ → Bool = λ k. inMask (a .mask) (At k) in
     c .lowest-on .ensures
-    ∙ ap (λ (n : ℕ). atPlace (otherwise (find on (unfixedPlaces (a .fixings) n)) (head? (unfixedPlaces (a .fixings) n)))) (size start)
-    ∙ picks-on p (a .fixings) (routeIn p (a .route)) (a .pick) (c .before .before .if1 .left) (c .before .if2 .left) on
-    (route-mask (start .pre .0) (start .pre .3) (start .pre .1))
+    ∙ ap (λ (n : ℕ). atPlace (otherwise (find has (unfixedPlaces (a .fixings) n)) (head? (unfixedPlaces (a .fixings) n)))) (size start)
+    ∙ picks-on p (a .fixings) (routeIn p route) (a .pick) (c .before .before .if1 .left) (c .before .if2 .left) has
+    (λ k l. route-mask (start .pre .0) (on .known) k l ∙ sym (ap (λ (m : ℕ). inMask m (At k)) (on .mask)))
 
 pub picked-spec : {M : Type 1} → statement M
 picked-spec =

@@ -9,10 +9,10 @@ use Rattle.search.proofs.run.run.Statement.{statement}
 use Rattle.search.proofs.run.run.Tie as tie
 
 abbrev Inv-loop : tie.InvT-loop
-Inv-loop p places ends arcs exits counts query stepped₀ stepped = Handed p query stepped (stepped .ending)
+Inv-loop p places ends arcs exits clauses counts query stepped₀ stepped = Handed p query stepped (stepped .ending)
 
 abbrev μ-loop : tie.MeasureT-loop
-μ-loop p places ends arcs exits counts query stepped₀ stepped = left query stepped (stepped .ending)
+μ-loop p places ends arcs exits clauses counts query stepped₀ stepped = left query stepped (stepped .ending)
 
 begin-requires : tie.Need-begin-requires Inv-loop μ-loop
 begin-requires c κs = search needs

@@ -11,7 +11,8 @@ use Rattle.plan.specs.Plan.{planOf}
 use Rattle.plan.proofs.Lists.{both}
 use Rattle.route.specs.declared.path.Route.{Route}
 use Rattle.route.specs.Subproblems.{relaxed}
-use Rattle.route.specs.Values.{Known, subproblemIn}
+use Rattle.route.specs.Values.{idsOf, OfNamed, subproblemIn}
+use Rattle.route.proofs.Holding.{known-low, mask-named}
 use Rattle.search.specs.declared.state.Search.{Search}
 use Rattle.search.specs.declared.state.Ending.{Ending}
 use Rattle.search.specs.declared.state.Ending.the-variants.{GoesOn}
@@ -20,7 +21,7 @@ use Rattle.search.specs.declared.state.Judged.the-variants.{Best}
 use Rattle.search.specs.Search.{considered}
 use Rattle.search.specs.Answers.{problemIn}
 use Rattle.search.specs.Values.{noFixings, stateIn, turnIn, Valid, stepIn}
-use Rattle.search.specs.Inner.{judgedIn}
+use Rattle.search.specs.Inner.{OnRoute, judgedIn}
 use Rattle.search.proofs.Holding.{places, settledTo, Room, Taken, Settles, newestOf, popped, count-few, popped-taken}
 use Rattle.search.proofs.Opening.{answered, judged-settles, step-empty, step-spent, step-goes}
 use Rattle.search.proofs.state.Search.step.Statement.{statement}
@@ -92,10 +93,10 @@ relaxed-route-requires c κs =
     let ready = start goes .pre .0 in
     (ready .accepted, ready .placed, ready .ended, ready .listed, ready .left, ready .junctions, taken goes .required)
 
--- a relaxed route that is there is of belts of the plan
-known : (c : tie.After-relaxed-route) → c .relaxed-route .result .found ≡ true
-    → Known (start (c .before .before .before) .args .p .now) (c .relaxed-route .result .route)
-known c h =
+-- a relaxed route that is there is of belts of the plan, and the mask has its named ones
+on : (c : tie.After-relaxed-route) → c .relaxed-route .result .found ≡ true
+    → OnRoute (start (c .before .before .before) .args .p .now) (c .relaxed-route .result .named) (c .relaxed-route .result .route)
+on c h =
     let from = c .before .before .before in
     let ready = start from .pre .0 in
     let trip = start from .args .query .trip in
@@ -105,13 +106,23 @@ known c h =
 improves-requires : tie.Need-improves-requires
 improves-requires c κs =
     let pre = start (c .before .before .before .before) .pre in
-    (pre .0 .accepted, known (c .before), pre .1 .known)
+    (pre .0 .accepted, λ h. on (c .before) h .known, pre .1 .known)
+
+-- so it is of one that improves on the best
+better-on : (c : tie.After-improves) → c .improves .result ≡ true
+    → let asked = c .before .before in OnRoute (start (asked .before .before .before) .args .p .now) (asked .relaxed-route .result .named) (asked .relaxed-route .result .route)
+better-on c h = on (c .before .before) (both _ _ (sym (c .improves .ensures) ∙ h) .0)
 
 judge-requires : tie.Need-judge-requires
 judge-requires c κs =
     let asked = c .before .before in
-    let ready = start (asked .before .before .before) .pre .0 in
-    (ready .accepted, ready .placed, ready .counted, λ h. known asked (both _ _ (sym (c .improves .ensures) ∙ h) .0))
+    let from = start (asked .before .before .before) in
+    let ready = from .pre .0 in (
+      ready .accepted,
+      ready .ruled,
+      ready .counted,
+      λ h. let there = better-on c h in subst (OfNamed (from .args .p .now)) (sym (there .mask)) (mask-named (ready .accepted) (idsOf (asked .relaxed-route .result .route)) (known-low (ready .accepted) (asked .relaxed-route .result .route) (there .known))),
+    )
 
 enum-told : tie.Need-enum-told
 enum-told c = search needs
@@ -147,7 +158,7 @@ settles c =
     let size = length-set (now from .waiting) (now from .count - 1) noFixings ∙ places (now from) (start from .good .0 .1 .1 .0 .1 .0 .1) in
     let state = considered (problemIn (args .p .now) (args .query)) (subproblemIn (args .p .now) one) (stateIn (args .p .now) (popped (now from)))
     (relaxed (planOf (args .p .now)) (args .query .trip .s) (args .query .trip .t) (subproblemIn (args .p .now) one)) in
-    let is = c .judge .ensures ∙ ap (judgedIn (args .p .now) (args .query) one (route c)) (c .before .improves .ensures) in
+    let is = c .judge .ensures (route c) (better-on (c .before)) ∙ ap (judgedIn (args .p .now) (args .query) one (route c)) (c .before .improves .ensures) in
     subst (Settles (args .p .now) (popped (now from)) one (args .query) (route c) state) (sym is)
     (judged-settles (ready .accepted) (λ i. from .before .before .before .shared-slice-known .given i .fits) (popped (now from)) size one (taken from)
     (args .query) (ready .junctions) (asked .result) (asked .ensures))

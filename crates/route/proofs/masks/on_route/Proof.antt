@@ -1,14 +1,14 @@
--- `pick::on_route` meets its contract: the mask so far with the belts of the route from k on is the mask of all. Assumes nothing.
+-- `masks::on_route` meets its contract: the mask so far with the belts of the route from k on is the mask of all. Assumes nothing.
 use mathlib.Core.Path.{_≡_, refl, sym, _∙_, ap, subst}
 use Prim.Native.Nat.{ℕ, _-_, _+_, _≤_, _<_}
 use native.Mathlib.Omega.{arith}
 use borrow.Author.Needs.{needs}
 use lib.ListN.{length, getD, drop}
 use Rattle.plan.specs.Plan.{beltId, placeIn}
 use Rattle.route.specs.Values.{idsOf, withPlace, LowPlace, gatheredIn}
 use Rattle.route.proofs.Held.{places, ids-next, ids-end, ids-at}
-use Rattle.search.proofs.pick.on_route.Statement.{statement}
-use Rattle.search.proofs.pick.on_route.Tie as tie
+use Rattle.route.proofs.masks.on_route.Statement.{statement}
+use Rattle.route.proofs.masks.on_route.Tie as tie
 
 abbrev Inv-loop : tie.InvT-loop
 Inv-loop places route mask₀ k₀ mask k =

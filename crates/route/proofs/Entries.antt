@@ -1,0 +1,271 @@
+-- The clauses of a plan, entry by entry: what each is, and how they are stored along the chains.
+--
+--   stores-at         after storing, a place of the list has what is stored there, and any other what it had; stores-append: one list after another
+--   rule-low, literal-low, next-rule-low, first-literal-low, next-literal-low
+--                     rules and literals, and what a record of them leads to, are below 2,048
+--   rule-entry, literal-entry
+--                     the entry of a rule, and of a literal
+--   first-entry, rule-parts, literal-parts
+--                     the entry of clausesOf for record 0, and the two parts of that for a rule and for a literal
+-- The literals of a rule, one after the other:
+--   LiteralsStored b old first now l
+--                     storing the entries from literal l on makes of the array `now` what storing those from `first` on makes of `old`
+--   literals-start, -stored, -end
+--                     so it is at first; the next entry is stored; at the end nothing is left
+-- The rules, one after the other:
+--   recordsFrom b r   the records of the rules from r on: of each its own, and those of its literals
+--   RulesStored b now r
+--                     storing the entries from rule r on makes of the array `now` what storing all makes of a fresh one
+--   rules-start, -stored, -end
+--                     the same of the rules; at the end the array is clausesOf
+--
+-- Every rule and every literal of an accepted plan stands on a chain, so nothing else has an entry. Assumes nothing.
+use mathlib.Core.Path.{_≡_, refl, sym, _∙_, ap, subst}
+use mathlib.Core.Logic.{_⊎_, inl, inr}
+use mathlib.Core.Bool.{Bool, true, false, _||_}
+use Prim.Native.Nat.{ℕ, zero, suc, _+_, _*_, _/_, _%_, _≤_, _<_}
+use mathlib.Core.List.{List, [], _∷_, _++_, map, List·Memᴰ, List·Memᴰ·head, List·Memᴰ·tail}
+use native.Mathlib.Omega.{arith}
+use lib.ListN.{length, getD, set, replicate, length-set, length-replicate, getD-replicate, List·getD-eq-default}
+use lib.Seq.{getD-set-same, getD-set-other}
+use lib.Dec.{eqb, ltb}
+use borrow.Author.Tests.{eqb-true, eqb-false, eq-eqb, ne-eqb, ltb-true, ltb-false}
+use Rattle.plan.specs.Lists.{mem, joined, run}
+use Rattle.plan.specs.Records.{kind, records, IsKind, chain}
+use Rattle.plan.specs.Plan.{literalAt}
+use Rattle.plan.specs.Limits.{Limits}
+use Rattle.plan.specs.Reading.{Accepted, IsRule, IsLiteral, firstRule, nextRule, firstLiteral, nextLiteral}
+use Rattle.plan.proofs.Lists.{test, never, untrue, in-mem, in-joined, getD-run, map-run}
+use Rattle.plan.proofs.Links.{Linked}
+use Rattle.plan.proofs.Passed.{linked}
+use Rattle.plan.proofs.Chains.{chain-end, rule-step, literal-step, rule-reached, literal-reached}
+use Rattle.plan.proofs.Accepted.{accepted-passed}
+use Rattle.plan.proofs.Limits.{accepted-limits}
+use Rattle.plan.proofs.Reading.{first-rule-is, next-rule-is, first-literal-is, next-literal-is}
+use Rattle.route.specs.Values.{namedPlaces, codeIn, ruleEntry, literalEntry, entryBy, entryOf, clausesOf}
+use Rattle.route.specs.Inner.{stores}
+
+-- ---- storing
+
+abbrev either : Bool → ℕ → ℕ → ℕ
+either true x y = x
+either false x y = y
+
+either-same : (t : Bool) (x : ℕ) → either t x x ≡ x
+either-same true x = refl
+either-same false x = refl
+
+module _ (f : ℕ → ℕ) where
+  length-stores : (l is : List ℕ) → length (stores f l is) ≡ length l
+  length-stores l [] = refl
+  length-stores l (i ∷ is) = length-stores (set l i (f i)) is ∙ length-set l i (f i)
+
+  stores-append : (l xs ys : List ℕ) → stores f l (xs ++ ys) ≡ stores f (stores f l xs) ys
+  stores-append l [] ys = refl
+  stores-append l (x ∷ xs) ys = stores-append (set l x (f x)) xs ys
+
+  stores-at : (l is : List ℕ) (j : ℕ) → j < length l → getD (stores f l is) j 0 ≡ either (mem j is) (f j) (getD l j 0)
+  stores-at l [] j h = refl
+  stores-at l (i ∷ is) j h = stores-at (set l i (f i)) is j (omega (arith, length-set l i (f i))) ∙ go (test (eqb j i))
+    where
+      go : (eqb j i ≡ true) ⊎ (eqb j i ≡ false) → either (mem j is) (f j) (getD (set l i (f i)) j 0) ≡ either (eqb j i || mem j is) (f j) (getD l j 0)
+      go (inl t) =
+          let q : i ≡ j = sym (eqb-true j i t) in
+          ap (λ (k : ℕ). either (mem j is) (f j) (getD (set l k (f k)) j 0)) q
+          ∙ ap (either (mem j is) (f j)) (getD-set-same l j (f j) 0 h)
+          ∙ either-same (mem j is) (f j)
+          ∙ sym (ap (λ (s : Bool). either (s || mem j is) (f j) (getD l j 0)) t)
+      go (inr t) =
+          ap (either (mem j is) (f j)) (getD-set-other l i j (f i) 0 (eqb-false j i t))
+          ∙ sym (ap (λ (s : Bool). either (s || mem j is) (f j) (getD l j 0)) t)
+
+-- ---- entries
+
+below : (n : ℕ) → ((n ≡ 0 → ⊥) → n < 2048) → n < 2048
+below zero h = omega arith
+below (suc n) h = h (λ e. omega arith)
+
+-- entries for any number of records
+entry-to : (f : ℕ → ℕ) (n i : ℕ) → i < n → getD (map f (run 0 n)) i 0 ≡ f i
+entry-to f n i h = let z : 0 + i ≡ i = omega arith in getD-run f 0 n i 0 h ∙ ap f z
+
+entries-to : (f : ℕ → ℕ) (n : ℕ) (l : List ℕ) → length l ≡ n → ((i : ℕ) → i < n → getD l i 0 ≡ f i) → l ≡ map f (run 0 n)
+entries-to f n l e h = map-run f 0 n 0 l e (λ i k. let z : i ≡ 0 + i = omega arith in h i k ∙ ap f z)
+
+entry-at : (b : List ℕ) (i : ℕ) → i < 2048 → getD (clausesOf b) i 0 ≡ entryOf b i
+unfolding clausesOf
+entry-at b = entry-to (entryOf b) 2048
+
+-- a number of two parts
+parts : (x y n : ℕ) → n ≡ x + 65536 * y → x < 2048 → (n % 65536 ≡ x) × (n / 65536 ≡ y)
+parts x y n e h = (omega arith, omega arith)
+
+module _ {b : List ℕ} (ok : Accepted b) where
+  links : Linked b
+  links = linked b (accepted-passed b (ok .unrefused) .0 .0)
+
+  limits : Limits b
+  limits = accepted-limits b (ok .unrefused)
+
+  kind-low : {k i : ℕ} → IsKind b k i → i < 2048
+  kind-low o = omega (arith, o .0, limits .sizes .few)
+
+  pub rule-low : (r : ℕ) → IsRule b r → r < 2048
+  rule-low r o = kind-low o
+
+  pub literal-low : (l : ℕ) → IsLiteral b l → l < 2048
+  literal-low l o = kind-low o
+
+  pub next-rule-low : (r : ℕ) → IsRule b r → nextRule b r < 2048
+  next-rule-low r o = below (nextRule b r) (λ d. kind-low (next-rule-is ok r o d .1))
+
+  pub first-literal-low : (r : ℕ) → IsRule b r → firstLiteral b r < 2048
+  first-literal-low r o = below (firstLiteral b r) (λ d. kind-low (first-literal-is ok r o d))
+
+  pub next-literal-low : (l : ℕ) → IsLiteral b l → nextLiteral b l < 2048
+  next-literal-low l o = below (nextLiteral b l) (λ d. kind-low (next-literal-is ok l o d .1))
+
+  rule-entry : (r : ℕ) → IsRule b r → entryOf b r ≡ ruleEntry b r
+  unfolding entryOf
+  rule-entry zero o = absurd (omega (arith, o .1, limits .header .kind-7))
+  rule-entry (suc r) o =
+      ap (λ (t : Bool). entryBy t (eqb (kind b (suc r)) 4) (ruleEntry b (suc r)) (literalEntry b (suc r))) (eq-eqb (kind b (suc r)) 3 (o .1))
+
+  literal-entry : (l : ℕ) → IsLiteral b l → entryOf b l ≡ literalEntry b l
+  unfolding entryOf
+  literal-entry zero o = absurd (omega (arith, o .1, limits .header .kind-7))
+  literal-entry (suc l) o =
+      let no : eqb (kind b (suc l)) 3 ≡ false = ne-eqb (kind b (suc l)) 3 (λ e. omega (arith, o .1)) in
+      λ i. entryBy (no i) (eq-eqb (kind b (suc l)) 4 (o .1) i) (ruleEntry b (suc l)) (literalEntry b (suc l))
+
+  module _ {clauses : List ℕ} (all : clauses ≡ clausesOf b) where
+    pub first-entry : getD clauses 0 0 ≡ firstRule b
+    unfolding entryOf
+    first-entry = ap (λ (l : List ℕ). getD l 0 0) all ∙ entry-at b 0 (omega arith)
+
+    pub rule-parts : (r : ℕ) → IsRule b r → (getD clauses r 0 % 65536 ≡ nextRule b r) × (getD clauses r 0 / 65536 ≡ firstLiteral b r)
+    rule-parts r o =
+        parts (nextRule b r) (firstLiteral b r) (getD clauses r 0)
+        (ap (λ (l : List ℕ). getD l r 0) all ∙ entry-at b r (rule-low r o) ∙ rule-entry r o) (next-rule-low r o)
+
+    pub literal-parts : (l : ℕ) → IsLiteral b l
+        → (getD clauses l 0 % 65536 ≡ nextLiteral b l) × (getD clauses l 0 / 65536 ≡ codeIn (namedPlaces b) (literalAt b l))
+    literal-parts l o =
+        parts (nextLiteral b l) (codeIn (namedPlaces b) (literalAt b l)) (getD clauses l 0)
+        (ap (λ (c : List ℕ). getD c l 0) all ∙ entry-at b l (literal-low l o) ∙ literal-entry l o) (next-literal-low l o)
+
+-- ---- the literals of a rule, one after the other
+
+pub record LiteralsStored (b old : List ℕ) (first : ℕ) (now : List ℕ) (l : ℕ) : Type 0 where
+  pub is-literal : (l ≡ 0 → ⊥) → IsLiteral b l
+  pub whole : stores (entryOf b) now (chain b l) ≡ stores (entryOf b) old (chain b first)
+
+module _ {b : List ℕ} (ok : Accepted b) where
+  pub literals-start : (old : List ℕ) (r : ℕ) → IsRule b r → (l : ℕ) → l ≡ firstLiteral b r → LiteralsStored b old l old l
+  literals-start old r o l e =
+      subst (λ (i : ℕ). LiteralsStored b old i old i) (sym e) (record { is-literal = first-literal-is ok r o; whole = refl })
+
+  module _ {old now : List ℕ} {first l : ℕ} (h : LiteralsStored b old first now l) where
+    pub literals-end : l ≡ 0 → now ≡ stores (entryOf b) old (chain b first)
+    literals-end e = sym (ap (stores (entryOf b) now) (ap (chain b) e ∙ chain-end b)) ∙ h .whole
+
+    pub literals-stored : (d : l ≡ 0 → ⊥) (n : ℕ) → n ≡ nextLiteral b l → {places : List ℕ} → places ≡ namedPlaces b
+        → (c : ℕ) → c ≡ codeIn places (literalAt b l) → LiteralsStored b old first (set now l (n + 65536 * c)) n
+    literals-stored d n s {places} all c q =
+        let o = h .is-literal d in
+        let code : c ≡ codeIn (namedPlaces b) (literalAt b l) = q ∙ ap (λ (ps : List ℕ). codeIn ps (literalAt b l)) all in
+        let entry : n + 65536 * c ≡ entryOf b l = (λ i. s i + 65536 * code i) ∙ sym (literal-entry ok l o) in
+        record {
+          is-literal = λ z. subst (IsLiteral b) (sym s) (next-literal-is ok l o (λ e. z (s ∙ e)) .1);
+          whole = (λ i. stores (entryOf b) (set now l (entry i)) (chain b (s i)))
+              ∙ sym (ap (stores (entryOf b) now) (literal-step (links ok) l o))
+              ∙ h .whole;
+        }
+
+-- ---- the rules, one after the other
+
+abbrev recordsOf : List ℕ → ℕ → List ℕ
+recordsOf b r = r ∷ chain b (firstLiteral b r)
+
+abbrev recordsFrom : List ℕ → ℕ → List ℕ
+recordsFrom b r = joined (recordsOf b) (chain b r)
+
+pub record RulesStored (b now : List ℕ) (r : ℕ) : Type 0 where
+  pub is-rule : (r ≡ 0 → ⊥) → IsRule b r
+  pub whole : stores (entryOf b) now (recordsFrom b r) ≡ stores (entryOf b) (replicate 2048 0) (0 ∷ recordsFrom b (firstRule b))
+
+-- behind the records there are only zeros
+past-kind : (b : List ℕ) → Limits b → (i : ℕ) → records b ≤ i → kind b i ≡ 0
+past-kind b h i l =
+    let high : getD b (12 * i + 2 * 0) 0 ≡ 0 = List·getD-eq-default b 0 (omega (arith, h .sizes .whole)) in
+    let low : getD b (12 * i + 2 * 0 + 1) 0 ≡ 0 = List·getD-eq-default b 0 (omega (arith, h .sizes .whole)) in
+    omega arith
+
+module _ {b : List ℕ} (ok : Accepted b) where
+  -- so what has a kind is a record
+  is-kind : (k i : ℕ) → (k ≡ 0 → ⊥) → kind b i ≡ k → IsKind b k i
+  is-kind k i d e = (go (test (ltb i (records b))), e)
+    where
+      go : (ltb i (records b) ≡ true) ⊎ (ltb i (records b) ≡ false) → i < records b
+      go (inl t) = ltb-true i (records b) t
+      go (inr t) = absurd (d (sym e ∙ past-kind b (limits ok) i (ltb-false i (records b) t)))
+
+  abbrev stored : List ℕ
+  stored = 0 ∷ recordsFrom b (firstRule b)
+
+  rule-stored : (r : ℕ) → IsRule b r → List·Memᴰ r stored
+  rule-stored r o = List·Memᴰ·tail (in-joined (recordsOf b) (rule-reached (links ok) r o) (List·Memᴰ·head refl))
+
+  literal-stored : (l : ℕ) → IsLiteral b l → List·Memᴰ l stored
+  literal-stored l o =
+      let (r, i, k) = literal-reached (links ok) l o in
+      List·Memᴰ·tail (in-joined (recordsOf b) (rule-reached (links ok) r i) (List·Memᴰ·tail k))
+
+  -- what is not stored has no entry
+  unstored : (i : ℕ) → mem i stored ≡ false → entryOf b i ≡ 0
+  unfolding entryOf
+  unstored zero h = absurd (never (in-mem stored (List·Memᴰ·head refl)) h)
+  unstored (suc i) h =
+      let rule : eqb (kind b (suc i)) 3 ≡ false = untrue (eqb (kind b (suc i)) 3) (λ t.
+      never (in-mem stored (rule-stored (suc i) (is-kind 3 (suc i) (λ e. omega arith) (eqb-true (kind b (suc i)) 3 t)))) h) in
+      let literal : eqb (kind b (suc i)) 4 ≡ false = untrue (eqb (kind b (suc i)) 4) (λ t.
+      never (in-mem stored (literal-stored (suc i) (is-kind 4 (suc i) (λ e. omega arith) (eqb-true (kind b (suc i)) 4 t)))) h) in
+      λ j. entryBy (rule j) (literal j) (ruleEntry b (suc i)) (literalEntry b (suc i))
+
+  all-stored : stores (entryOf b) (replicate 2048 0) stored ≡ clausesOf b
+  unfolding clausesOf
+  all-stored =
+      let fresh : List ℕ = replicate 2048 0 in
+      let size = length-replicate {A = ℕ} 2048 0 in
+      entries-to (entryOf b) 2048 (stores (entryOf b) fresh stored) (length-stores (entryOf b) fresh stored ∙ size) (λ i l.
+      stores-at (entryOf b) fresh stored i (omega (arith, size))
+      ∙ ap (either (mem i stored) (entryOf b i)) (getD-replicate 2048 i 0 0 l)
+      ∙ go i (mem i stored) refl)
+    where
+      go : (i : ℕ) (t : Bool) → mem i stored ≡ t → either t (entryOf b i) 0 ≡ entryOf b i
+      go i true h = refl
+      go i false h = sym (unstored i h)
+
+  pub rules-start : (r : ℕ) → r ≡ firstRule b → RulesStored b (set (replicate 2048 0) 0 r) r
+  unfolding entryOf
+  rules-start r e = subst (λ (n : ℕ). RulesStored b (set (replicate 2048 0) 0 n) n) (sym e) (record { is-rule = first-rule-is ok; whole = refl })
+
+  module _ {now : List ℕ} {r : ℕ} (h : RulesStored b now r) where
+    pub rules-end : r ≡ 0 → now ≡ clausesOf b
+    rules-end e =
+        sym (ap (λ (is : List ℕ). stores (entryOf b) now (joined (recordsOf b) is)) (ap (chain b) e ∙ chain-end b)) ∙ h .whole ∙ all-stored
+
+    pub rules-stored : (d : r ≡ 0 → ⊥) (n l : ℕ) → n ≡ nextRule b r → l ≡ firstLiteral b r
+        → (put : List ℕ) → put ≡ stores (entryOf b) (set now r (n + 65536 * l)) (chain b (firstLiteral b r)) → RulesStored b put n
+    rules-stored d n l s q put w =
+        let o = h .is-rule d in
+        let f = entryOf b in
+        let entry : n + 65536 * l ≡ f r = (λ i. s i + 65536 * q i) ∙ sym (rule-entry ok r o) in
+        record {
+          is-rule = λ z. subst (IsRule b) (sym s) (next-rule-is ok r o (λ e. z (s ∙ e)) .1);
+          whole = (λ i. stores f (w i) (recordsFrom b (s i)))
+              ∙ (λ i. stores f (stores f (set now r (entry i)) (chain b (firstLiteral b r))) (recordsFrom b (nextRule b r)))
+              ∙ sym (stores-append f (set now r (f r)) (chain b (firstLiteral b r)) (recordsFrom b (nextRule b r)))
+              ∙ sym (ap (λ (is : List ℕ). stores f now (joined (recordsOf b) is)) (rule-step (links ok) r o))
+              ∙ h .whole;
+        }

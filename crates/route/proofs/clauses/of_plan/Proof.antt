@@ -1,0 +1,121 @@
+-- `clauses::of_plan` meets its contract: storing the entries of the rules left makes the whole (RulesStored). Assumes nothing.
+use Prim.Native.Nat.{_<_}
+use native.Mathlib.Omega.{arith}
+use borrow.Author.Needs.{needs}
+use lib.ListN.{length}
+use Rattle.plan.specs.Reading.{IsRule, rulesFrom}
+use Rattle.route.proofs.Ahead.{rule-shorter}
+use Rattle.route.proofs.Entries.{RulesStored, rules-start, rules-stored, rules-end, rule-low, next-rule-low, first-literal-low}
+use Rattle.route.proofs.clauses.of_plan.Statement.{statement}
+use Rattle.route.proofs.clauses.of_plan.Tie as tie
+
+abbrev Inv-loop : tie.InvT-loop
+Inv-loop p places clauses₀ rule₀ clauses rule = RulesStored p clauses (rule .0)
+
+abbrev μ-loop : tie.MeasureT-loop
+μ-loop p places clauses₀ rule₀ clauses rule = length (rulesFrom p (rule .0))
+
+first-rule-requires : tie.Need-first-rule-requires Inv-loop μ-loop
+first-rule-requires c κs = c .before .pre .0
+
+cast-clauses : tie.Need-cast-clauses Inv-loop μ-loop
+cast-clauses c = search needs
+
+array-write-clauses : tie.Need-array-write-clauses Inv-loop μ-loop
+array-write-clauses c = omega arith
+
+loop-holds : tie.Need-loop-holds Inv-loop μ-loop
+loop-holds c = rules-start (c .before .before .before .pre .0) _ (c .before .first-rule .ensures)
+
+-- the rule of this turn
+rule-is : (c : tie.Then1 Inv-loop μ-loop) → IsRule (c .before .before .before .before .before .before .args .p .now) (c .before .before .loop .rule .0)
+rule-is c = c .before .before .loop .inv .is-rule (c .if1 .taken)
+
+first-literal-requires : tie.Need-first-literal-requires Inv-loop μ-loop
+first-literal-requires c κs = (c .before .before .before .before .before .before .pre .0, rule-is c)
+
+next-rule-requires : tie.Need-next-rule-requires Inv-loop μ-loop
+next-rule-requires c κs = (c .before .before .before .before .before .before .before .pre .0, rule-is (c .before))
+
+-- the parts of its entry fit
+parts-low : (c : tie.After-next-rule Inv-loop μ-loop) → (c .next-rule .result .0 < 2048) × (c .before .first-literal .result .0 < 2048)
+parts-low c =
+    let turn = c .before .before in
+    let at = turn .before .before in
+    let ok = at .before .before .before .before .pre .0 in
+    let r = at .loop .rule .0 in
+    let is = rule-is turn in
+    (omega (arith, c .next-rule .ensures, next-rule-low ok r is), omega (arith, c .before .first-literal .ensures, first-literal-low ok r is))
+
+cast-clauses-2 : tie.Need-cast-clauses-2 Inv-loop μ-loop
+cast-clauses-2 c = let low = parts-low (c .before) in omega (arith, low .0, low .1)
+
+cast-clauses-3 : tie.Need-cast-clauses-3 Inv-loop μ-loop
+cast-clauses-3 c = let low = parts-low (c .before .before) in omega (arith, low .0, low .1)
+
+mul-clauses : tie.Need-mul-clauses Inv-loop μ-loop
+mul-clauses c = let low = parts-low (c .before .before) in omega (arith, low .0, low .1)
+
+add-clauses : tie.Need-add-clauses Inv-loop μ-loop
+add-clauses c = let low = parts-low (c .before .before) in omega (arith, low .0, low .1)
+
+-- the place of its entry is in the array
+place-low : (c : tie.Then1 Inv-loop μ-loop) → c .before .before .loop .rule .0 < 2048
+place-low c = rule-low (c .before .before .before .before .before .before .pre .0) (c .before .before .loop .rule .0) (rule-is c)
+
+cast-clauses-4 : tie.Need-cast-clauses-4 Inv-loop μ-loop
+cast-clauses-4 c = omega (arith, place-low (c .before .before .before .before .before))
+
+mul-clauses-2 : tie.Need-mul-clauses-2 Inv-loop μ-loop
+mul-clauses-2 c = omega (arith, place-low (c .before .before .before .before .before))
+
+array-write-clauses-2 : tie.Need-array-write-clauses-2 Inv-loop μ-loop
+array-write-clauses-2 c = place-low (c .before .before .before .before .before)
+
+put-literals-requires : tie.Need-put-literals-requires Inv-loop μ-loop
+put-literals-requires c κs =
+    let turn = c .before .before .before .before .before .before in
+    let pre = turn .before .before .before .before .before .before .pre in
+    (pre .0, pre .1, rule-is turn)
+
+loop-less : tie.Need-loop-less Inv-loop μ-loop
+loop-less c =
+    let next = c .before .before .before .before .before in
+    let turn = next .before .before in
+    let at = turn .before .before in
+    rule-shorter (at .before .before .before .before .pre .0) (at .loop .rule .0) (rule-is turn) _ (next .next-rule .ensures)
+
+loop-again : tie.Need-loop-again Inv-loop μ-loop
+loop-again c =
+    let next = c .before .before .before .before .before in
+    let turn = next .before .before in
+    let at = turn .before .before in
+    rules-stored (at .before .before .before .before .pre .0) (at .loop .inv) (turn .if1 .taken) _ _ (next .next-rule .ensures)
+    (next .before .first-literal .ensures) _ (c .put-literals .ensures)
+
+returns : tie.Need-returns Inv-loop μ-loop
+returns c = let at = c .before .before in rules-end (at .before .before .before .before .pre .0) (at .loop .inv) (c .if1 .left)
+
+pub of-plan-spec : {M : Type 1} → statement M
+of-plan-spec =
+    tie.close
+    (tie.spec
+    Inv-loop
+    μ-loop
+    first-rule-requires
+    cast-clauses
+    array-write-clauses
+    loop-holds
+    first-literal-requires
+    next-rule-requires
+    cast-clauses-2
+    cast-clauses-3
+    mul-clauses
+    add-clauses
+    cast-clauses-4
+    mul-clauses-2
+    array-write-clauses-2
+    put-literals-requires
+    loop-less
+    loop-again
+    returns)

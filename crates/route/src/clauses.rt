@@ -1,0 +1,67 @@
+// The chains of a plan's rules and literals as numbers, decoded once. By record index: entry 0 is the first rule; the entry of a rule is the next
+// rule, and 65,536 times its first literal; the entry of a literal is the next literal of its rule, and 65,536 times its code; the rest is 0.
+// A code is twice the literal's variable, and 1 more where it is wanted. The variable of a named belt is its place among the named belts, of which
+// there are at most 48, and that of mode m is 47 + m.
+use plan::read;
+use plan::read::Literal;
+use plan::read::RuleId;
+ghost use mathlib.Core.Path.{_≡_};
+ghost use Prim.Native.Nat.{_<_};
+ghost use Rattle.plan.specs.Records.{chain};
+ghost use Rattle.plan.specs.Reading.{Accepted, IsRule, firstLiteral};
+ghost use Rattle.route.specs.Values.{namedPlaces, codeBy, codeIn, entryOf, clausesOf};
+ghost use Rattle.route.specs.Inner.{Codable, stores};
+
+// The code of a variable, wanted or not.
+fn code(variable: u32, wanted: bool) -> u32
+    requires { ⌜ variable < 64 ⌝ }
+    ensures { λ v. ⌜ v ≡ codeBy variable wanted ⌝ }
+{
+    if wanted {
+        return 2 * variable + 1;
+    }
+    2 * variable
+}
+
+// The code of a literal. `places` are those of the named belts (plan::named::named_places).
+fn code_of(places: &[u8; 2048], literal: Literal) -> u32
+    requires { ⌜ Codable (now places) literal ⌝ }
+    ensures { λ v. ⌜ v ≡ codeIn (now (places .entry)) literal ⌝ }
+{
+    match literal {
+        Literal::OfBelt(belt, wanted) => code(places[belt.0 as usize] as u32 - 1, wanted),
+        Literal::OfMode(mode, wanted) => code(47 + mode.0 as u32, wanted),
+    }
+}
+
+// Puts the entries of a rule's literals into the array.
+fn put_literals(p: &[u8], places: &[u8; 2048], clauses: &mut [u32; 2048], rule: RuleId)
+    requires { ⌜ Accepted (now p) × (now places ≡ namedPlaces (now p)) × IsRule (now p) (rule .0) ⌝ }
+    ensures { λ v. ⌜ now (clauses .exit) ≡ stores (entryOf (now (p .entry))) (now (clauses .entry)) (chain (now (p .entry)) (firstLiteral (now (p .entry)) (rule .0))) ⌝ }
+{
+    let mut literal = read::first_literal(p, rule);
+    while literal.0 != 0 {
+        let code = code_of(places, read::literal_of(p, literal));
+        let next = read::next_literal(p, literal);
+        clauses[literal.0 as usize] = next.0 as u32 + 65536 * code;
+        literal = next;
+    }
+}
+
+// The clauses of an accepted plan. `places` are those of its named belts (plan::named::named_places). Each rule and each literal is read once.
+pub fn of_plan(p: &[u8], places: &[u8; 2048]) -> [u32; 2048]
+    requires { ⌜ Accepted (now p) × (now places ≡ namedPlaces (now p)) ⌝ }
+    ensures { λ v. ⌜ v ≡ clausesOf (now (p .entry)) ⌝ }
+{
+    let mut clauses = [0u32; 2048];
+    let mut rule = read::first_rule(p);
+    clauses[0] = rule.0 as u32;
+    while rule.0 != 0 {
+        let literal = read::first_literal(p, rule);
+        let next = read::next_rule(p, rule);
+        clauses[rule.0 as usize] = next.0 as u32 + 65536 * (literal.0 as u32);
+        put_literals(p, places, &mut clauses, rule);
+        rule = next;
+    }
+    clauses
+}

@@ -1,0 +1,41 @@
+-- `lowest_of`: the mask of a known route is of named belts.
+use borrow.Author.Needs.{needs}
+use mathlib.Core.Path.{sym, _∙_, ap, subst}
+use mathlib.Core.List.{List}
+use Prim.Native.Nat.{ℕ}
+use Rattle.route.specs.Values.{idsOf, OfNamed, gatheredIn}
+use Rattle.route.proofs.Holding.{known-low, route-placeable, mask-named}
+use Rattle.sheet_cases.proofs.answers.lowest_of.Statement.{statement}
+use Rattle.sheet_cases.proofs.answers.lowest_of.Tie as tie
+
+named-places-requires : tie.Need-named-places-requires
+named-places-requires c κs = search needs
+
+of-plan-requires : tie.Need-of-plan-requires
+of-plan-requires c κs = search needs
+
+on-route-requires : tie.Need-on-route-requires
+on-route-requires c κs =
+    let made = c .before .before .before .before in
+    let start = made .before .before in
+    route-placeable (start .pre .0) (start .args .r) (start .pre .1) (made .named-places .ensures)
+
+lowest-setting-requires : tie.Need-lowest-setting-requires
+lowest-setting-requires c κs =
+    let made = c .before .before .before .before .before in
+    let start = made .before .before in
+    let es = idsOf (start .args .r) in
+    let mask = c .on-route .ensures ∙ ap (λ (ps : List ℕ). gatheredIn ps 0 es) (made .named-places .ensures) in
+    let low = known-low (start .pre .0) (start .args .r) (start .pre .1) in (
+      start .pre .0,
+      c .before .before .before .of-plan .ensures,
+      subst (OfNamed (start .args .p .now)) (sym mask) (mask-named (start .pre .0) es low),
+    )
+
+returns : tie.Need-returns
+returns c = search needs
+
+pub lowest-of-spec : {M : Type 1} → statement M
+lowest-of-spec =
+    tie.close
+    (tie.spec named-places-requires of-plan-requires on-route-requires lowest-setting-requires returns)
