@@ -9,6 +9,7 @@
 --   way-end, way-past  the way on from t is empty, and past t there is none
 --   way-route          a way on is a route; way-length: it has at most t - u belts
 --   way-next           what follows the first belt of a way on is the way on from where it leads
+--   way-through        where no way on leads from the junction that a required belt leaves, none leads from an earlier one
 --   AllOwed b x t s    every required belt is owed from s on
 --   way-relaxed        then the way on from s is the relaxed route
 --   unowed-relaxed     and else there is none
@@ -18,10 +19,11 @@
 use mathlib.Core.Path.{_≡_, refl, sym, _∙_, ap}
 use mathlib.Core.Logic.{_↔_, _⊎_, inl, inr}
 use mathlib.Core.Bool.{true, false, _&&_}
-use mathlib.Core.Option.{Option, none, some}
+use mathlib.Core.Option.{Option, none, some, Option·none-ne-some}
 use Prim.Native.Nat.{ℕ, _+_, _≤_, _<_}
 use mathlib.Core.List.{List, [], _∷_, List·Memᴰ, List·Memᴰ·head, List·Memᴰ·tail, Memᴰ·cast}
 use native.Mathlib.Omega.{arith}
+use native.Mathlib.Nat.{eq-or-lt-of-le}
 use lib.ListN.{length}
 use lib.Dec.{eqb, leb, ltb}
 use borrow.Author.Tests.{ne-eqb, ltb-true, ltb-false, lt-ltb, leb-true, le-leb}
@@ -198,6 +200,32 @@ module _ {b : List ℕ} (ok : Accepted b) (x : Subproblem) (t : ℕ) where
       let first : (q : List Belt) → IsRoute (planOf b) (e .leads) t q → admits (remaining (planOf b) x t (e .leads)) q ≡ true → before q r ≡ false =
       λ q l c. let w : IsRoute (planOf b) u t (e ∷ q) = (k .0, k .1, l) in sym (before-cons e q r) ∙ least (e ∷ q) w (remaining-step u e q w .1 (g, c)) in
       (k .0, k .1, is-relaxed ok (e .leads) t (remaining (planOf b) x t (e .leads)) r (k .2) rest first)
+
+  -- each way on from v, at or before where g leaves, comes to the junction that g leaves
+  come-by : (g : Belt) → Owed b x t (g .leaves) g → wayOn (planOf b) x t (g .leaves) ≡ none → (r : List Belt) (v : ℕ) → v ≤ g .leaves
+      → wayOn (planOf b) x t v ≡ some r → ⊥
+  come-by g owed lost [] v l h = let end : v ≡ t = way-route v [] h in omega (arith, owed .before-t)
+  come-by g owed lost (e ∷ r) v l h = go (come-by g owed lost r (e .leads)) (eq-or-lt-of-le l) (test (ltb (g .leaves) (e .leads)))
+    where
+      goes : Goes b x v e
+      goes = let (k, a, least) = relaxed-some ok v t (remaining (planOf b) x t v) (e ∷ r) h in remaining-step v e r k .0 a .0
+
+      go : (e .leads ≤ g .leaves → wayOn (planOf b) x t (e .leads) ≡ some r → ⊥) → (v ≡ g .leaves) ⊎ (v < g .leaves)
+          → (ltb (g .leaves) (e .leads) ≡ true) ⊎ (ltb (g .leaves) (e .leads) ≡ false) → ⊥
+      go rest (inl q) k = Option·none-ne-some _ (sym lost ∙ ap (wayOn (planOf b) x t) (sym q) ∙ h)
+      go rest (inr m) (inl k) =
+          let same = goes .only g (owed-between owed v (e .leads) l (ltb-true (g .leaves) (e .leads) k)) in
+          let leaves : e .leaves ≡ v = way-next v e r h .1 in
+          omega (arith, ap (λ (f : Belt). f .leaves) same)
+      go rest (inr m) (inr k) = rest (ltb-false (g .leaves) (e .leads) k) (way-next v e r h .2)
+
+  pub way-through : (g : Belt) → Owed b x t (g .leaves) g → wayOn (planOf b) x t (g .leaves) ≡ none → (v : ℕ) → v ≤ g .leaves
+      → wayOn (planOf b) x t v ≡ none
+  way-through g owed lost v l = go (wayOn (planOf b) x t v) refl
+    where
+      go : (o : Option (List Belt)) → wayOn (planOf b) x t v ≡ o → o ≡ none
+      go none e = refl
+      go (some r) e = absurd (come-by g owed lost r v l e)
 
   pub way-relaxed : (s : ℕ) → AllOwed b x t s → wayOn (planOf b) x t s ≡ relaxed (planOf b) s t x
   way-relaxed s owed = go (wayOn (planOf b) x t s) refl

@@ -10,22 +10,26 @@
 use mathlib.Core.Path.{_≡_, refl, sym, _∙_, ap, subst}
 use mathlib.Core.Logic.{_⊎_, inl, inr}
 use mathlib.Core.Bool.{true, false}
+use mathlib.Core.Option.{none, Option·none-ne-some}
 use Prim.Native.Nat.{ℕ, zero, suc, _≤_, _<_}
 use mathlib.Core.List.{List, [], _∷_}
 use native.Mathlib.Omega.{arith}
 use native.Mathlib.Nat.{eq-or-lt-of-le}
 use lib.ListN.{length, getD, set, replicate, length-set, length-replicate, getD-replicate}
 use lib.Seq.{getD-set-same, getD-set-other}
+use lib.Dec.{leb}
+use borrow.Author.Tests.{leb-true, leb-false}
 use Rattle.plan.specs.declared.read.BeltId.{BeltId}
 use Rattle.plan.specs.Plan.{planOf, leaving, beltId}
 use Rattle.plan.specs.Reading.{Accepted, Bytes}
-use Rattle.plan.proofs.Reading.{plan-sizes}
+use Rattle.plan.proofs.Lists.{test, any-some}
+use Rattle.plan.proofs.Reading.{plan-sizes, leaving-in}
 use Rattle.route.specs.declared.relax.Way.{Way}
 use Rattle.route.specs.Routes.{costLimit}
 use Rattle.route.specs.Subproblems.{Subproblem}
-use Rattle.route.specs.Inner.{wayCost, noWay, wayBy, Begins}
-use Rattle.route.proofs.Onward.{way-end, way-past, way-length}
-use Rattle.route.proofs.Ways.{Costs, Found, Nearest, nearest-start, nearest-moved, nearest-kept, cost-low, way-is}
+use Rattle.route.specs.Inner.{isRequired, wayOn, wayCost, noWay, wayBy, Begins}
+use Rattle.route.proofs.Onward.{Owed, way-end, way-past, way-length, way-through}
+use Rattle.route.proofs.Ways.{Costs, Found, Nearest, nearest-start, nearest-moved, nearest-kept, cost-low, way-lost, way-is}
 
 pub record Passed (b : List ℕ) (x : Subproblem) (t u nearest : ℕ) (costs : List ℕ) (firsts : List BeltId) : Type 0 where
   pub inside : u ≤ t
@@ -107,6 +111,24 @@ module _ {b : List ℕ} (ok : Accepted b) (bytes : Bytes b) (x : Subproblem) (t 
 
     pub passed-moved : way .required ≡ true → Passed b x t u u (set costs u (way .cost)) (set firsts u (way .belt))
     passed-moved h = stored u (nearest-moved u (done .inside) (sym (found .cuts) ∙ h))
+
+    -- no way on leads from u, which a required belt leaves: none leads from an earlier junction
+    pub passed-dead : way .required ≡ true → way .cost ≡ costLimit → (s : ℕ) → s ≤ u
+        → (costLimit ≡ wayCost (wayOn (planOf b) x t s)) × ((j : ℕ) → s ≤ j → Begins (planOf b) x t j (getD (set firsts u (way .belt)) j (beltId 0)))
+    passed-dead h c s l = (sym (ap wayCost (before s l)), λ j k. go j (test (leb j u)))
+      where
+        before : (j : ℕ) → j ≤ u → wayOn (planOf b) x t j ≡ none
+        before j k =
+            let (g, m, w) = any-some (isRequired x) (leaving (planOf b) u) (sym (found .cuts) ∙ h) in
+            let (i, e) = leaving-in (planOf b) u g m in
+            let past = done .inside in
+            let owed : Owed b x t (g .leaves) g = record { belt = i; wanted = w; from = omega arith; before-t = omega arith } in
+            let lost = way-lost ok bytes x t inside u (sym (found .costBy) ∙ c) in
+            way-through ok x t g owed (ap (wayOn (planOf b) x t) e ∙ lost) j (omega arith)
+
+        go : (j : ℕ) → (leb j u ≡ true) ⊎ (leb j u ≡ false) → Begins (planOf b) x t j (getD (set firsts u (way .belt)) j (beltId 0))
+        go j (inl k) e r q = absurd (Option·none-ne-some _ (sym (before j (leb-true j u k)) ∙ q))
+        go j (inr k) e r q = passed-moved h .guides j (omega (arith, leb-false j u k)) e r q
 
     pub passed-kept : way .required ≡ false → Passed b x t u nearest (set costs u (way .cost)) (set firsts u (way .belt))
     passed-kept h = stored nearest (nearest-kept u nearest (done .near) (sym (found .cuts) ∙ h))

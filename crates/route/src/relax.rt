@@ -197,7 +197,8 @@ fn way_from(
     by_required(p, places, ends, arcs, fixings, costs, nearest, u)
 }
 
-// The pass backwards. `nearest` is the nearest junction above u that a required belt leaves, or t.
+// The pass backwards. `nearest` is the nearest junction above u that a required belt leaves, or t. Every route with the required belts goes through
+// such a junction, so where no way leads on from there the pass is over.
 fn ways_to(
     p: &[u8],
     places: &[u8; 2048],
@@ -223,6 +224,12 @@ fn ways_to(
         costs[u] = way.cost;
         firsts[u] = belt;
         if way.required {
+            if way.cost == NO_WAY {
+                return Ways {
+                    cost: NO_WAY,
+                    firsts: firsts,
+                };
+            }
             nearest = u;
         }
     }

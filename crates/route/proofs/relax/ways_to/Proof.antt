@@ -4,7 +4,7 @@ use native.Mathlib.Omega.{arith}
 use Rattle.plan.specs.Reading.{Bytes}
 use Rattle.plan.proofs.Reading.{plan-sizes}
 use Rattle.route.specs.Values.{subproblemIn}
-use Rattle.route.proofs.Passed.{Passed, passed-start, passed-moved, passed-kept}
+use Rattle.route.proofs.Passed.{Passed, passed-start, passed-moved, passed-kept, passed-dead}
 use Rattle.route.proofs.relax.ways_to.Statement.{statement}
 use Rattle.route.proofs.relax.ways_to.Tie as tie
 
@@ -61,18 +61,33 @@ mul-firsts c = omega (arith, below (c .before .before .before))
 array-set-from-firsts : tie.Need-array-set-from-firsts Inv-loop μ-loop
 array-set-from-firsts c = below (c .before .before .before)
 
+-- where the way of this turn was asked for
+abbrev turn-of : tie.After-way-from Inv-loop μ-loop → tie.In-loop Inv-loop μ-loop
+turn-of c = c .before .before
+
+returns : tie.Need-returns Inv-loop μ-loop
+returns c =
+    let called = c .before .before .before .before in
+    let turn = turn-of called in
+    let at = turn .before in
+    let start = at .before .before in
+    let x = subproblemIn (start .args .p .now) (start .args .fixings) in
+    passed-dead (start .pre .0 .accepted) (bytes (at .before)) x (start .args .t) (start .pre .4)
+    (omega (arith, turn .loop-test .taken)) (at .loop .inv) (called .way-from .ensures) (c .before .before .if1 .taken) (c .if2 .taken)
+    (start .args .s) (omega (arith, turn .loop-test .taken))
+
 loop-less : tie.Need-loop-less Inv-loop μ-loop
-loop-less c = omega (arith, c .before .before .before .before .loop-test .taken)
+loop-less c = omega (arith, c .before .before .before .before .before .before .loop-test .taken)
 
 loop-again : tie.Need-loop-again Inv-loop μ-loop
 loop-again c =
-    let called = c .before .before in
+    let called = c .before .before .before .before in
     let turn = called .before .before in
     let at = turn .before in
     let start = at .before .before in
     let x = subproblemIn (start .args .p .now) (start .args .fixings) in
     passed-moved (start .pre .0 .accepted) (bytes (at .before)) x (start .args .t) (start .pre .4)
-    (omega (arith, turn .loop-test .taken)) (at .loop .inv) (called .way-from .ensures) (c .if1 .taken)
+    (omega (arith, turn .loop-test .taken)) (at .loop .inv) (called .way-from .ensures) (c .before .before .if1 .taken)
 
 loop-less-2 : tie.Need-loop-less-2 Inv-loop μ-loop
 loop-less-2 c = omega (arith, c .before .before .before .before .loop-test .taken)
@@ -90,11 +105,11 @@ loop-again-2 c =
 mul-t16 : tie.Need-mul-t16 Inv-loop μ-loop
 mul-t16 c = omega (arith, inside (c .before .before .before) .0)
 
-array-read-t28 : tie.Need-array-read-t28 Inv-loop μ-loop
-array-read-t28 c = inside (c .before .before .before) .0
+array-read-t30 : tie.Need-array-read-t30 Inv-loop μ-loop
+array-read-t30 c = inside (c .before .before .before) .0
 
-returns : tie.Need-returns Inv-loop μ-loop
-returns c =
+returns-2 : tie.Need-returns-2 Inv-loop μ-loop
+returns-2 c =
     let start = c .before .before .before in
     let done = c .before .loop .inv in
     let end = c .loop-test .left in
@@ -115,10 +130,11 @@ ways-to-spec =
     array-write-costs-2
     mul-firsts
     array-set-from-firsts
+    returns
     loop-less
     loop-again
     loop-less-2
     loop-again-2
     mul-t16
-    array-read-t28
-    returns)
+    array-read-t30
+    returns-2)
