@@ -8,6 +8,7 @@ use plan::read::RuleId;
 ghost use mathlib.Core.Path.{_≡_};
 ghost use Prim.Native.Nat.{_<_};
 ghost use Rattle.plan.specs.Records.{chain};
+ghost use lib.ListN.{replicate};
 ghost use Rattle.plan.specs.Reading.{Accepted, IsRule, firstLiteral};
 ghost use Rattle.route.specs.Values.{namedPlaces, codeBy, codeIn, entryOf, clausesOf};
 ghost use Rattle.route.specs.Inner.{Codable, stores};
@@ -48,20 +49,19 @@ fn put_literals(p: &[u8], places: &[u8; 2048], clauses: &mut [u32; 2048], rule: 
     }
 }
 
-// The clauses of an accepted plan. `places` are those of its named belts (plan::named::named_places). Each rule and each literal is read once.
-pub fn of_plan(p: &[u8], places: &[u8; 2048]) -> [u32; 2048]
-    requires { ⌜ Accepted (now p) × (now places ≡ namedPlaces (now p)) ⌝ }
-    ensures { λ v. ⌜ v ≡ clausesOf (now (p .entry)) ⌝ }
+// Puts the clauses of an accepted plan into the array, which is all 0 before. `places` are those of its named belts (plan::named::named_places). Each
+// rule and each literal is read once.
+pub fn decode(p: &[u8], places: &[u8; 2048], clauses: &mut [u32; 2048])
+    requires { ⌜ Accepted (now p) × (now places ≡ namedPlaces (now p)) × (now clauses ≡ replicate 2048 0) ⌝ }
+    ensures { λ v. ⌜ now (clauses .exit) ≡ clausesOf (now (p .entry)) ⌝ }
 {
-    let mut clauses = [0u32; 2048];
     let mut rule = read::first_rule(p);
     clauses[0] = rule.0 as u32;
     while rule.0 != 0 {
         let literal = read::first_literal(p, rule);
         let next = read::next_rule(p, rule);
         clauses[rule.0 as usize] = next.0 as u32 + 65536 * (literal.0 as u32);
-        put_literals(p, places, &mut clauses, rule);
+        put_literals(p, places, clauses, rule);
         rule = next;
     }
-    clauses
 }

@@ -48,7 +48,7 @@ fn try_both(p: &[u8], clauses: &[u32; 2048], belts: u64, mode: ModeId, setting: 
 }
 
 // The lowest setting under which every rule is met, where the named belts of the mask `belts` are on the route (masks::on_route): the rule test of
-// a route. `clauses` are those of the plan (clauses::of_plan).
+// a route. `clauses` are those of the plan (clauses::decode).
 pub fn lowest_setting(p: &[u8], clauses: &[u32; 2048], belts: u64) -> Lowest
     requires { ⌜ Accepted (now p) × (now clauses ≡ clausesOf (now p)) × OfNamed (now p) belts ⌝ }
     ensures { λ v. ⌜ settingIn v ≡ lowest (planOf (now (p .entry)) .rules) (planOf (now (p .entry)) .modes) (hasBelt (now (p .entry)) belts) ⌝ }

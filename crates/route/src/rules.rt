@@ -1,5 +1,5 @@
 // The rule test: whether every rule of a plan is met by a route under a setting of the modes. It goes by the clauses of the plan
-// (clauses::of_plan) and by the mask of the named belts on the route (masks::on_route), which are made once for all settings.
+// (clauses::decode) and by the mask of the named belts on the route (masks::on_route), which are made once for all settings.
 use crate::clauses;
 use crate::masks;
 use crate::path::Route;
@@ -52,6 +52,7 @@ pub fn met_by(p: &[u8], route: Route, setting: u16) -> bool
     ensures { λ v. ⌜ v ≡ allMet (planOf (now (p .entry)) .rules) (passes (routeIn (now (p .entry)) route)) setting ⌝ }
 {
     let places = named::named_places(p);
-    let clauses = clauses::of_plan(p, &places);
+    let mut clauses = [0u32; 2048];
+    clauses::decode(p, &places, &mut clauses);
     all_met(p, &clauses, masks::on_route(&places, route), setting)
 }

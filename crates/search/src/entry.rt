@@ -118,7 +118,8 @@ fn find_route(p: &[u8], query: Query, out: &mut [u8]) -> Answer
     let mut arcs = [0u64; 2048];
     let ends = adjacency::decode(p, &mut arcs);
     let exits = relax::exits(p, &places, &ends, &arcs);
-    let clauses = clauses::of_plan(p, &places);
+    let mut clauses = [0u32; 2048];
+    clauses::decode(p, &places, &mut clauses);
     let counts = pick::rule_counts(p, &places);
     let stepped = run::run(p, &places, &ends, &arcs, &exits, &clauses, counts, query);
     let search = stepped.search;

@@ -163,7 +163,7 @@ fn child(fixings: Fixings, k: usize, required: bool) -> Fixings
 
 impl Search {
     // One step. What is lent is made once for all steps: the places of the plan's named belts (plan::named::named_places), its belts side by side
-    // (plan::adjacency::decode), the named belts that leave each junction (route::relax::exits), its rules (route::clauses::of_plan) and the counts
+    // (plan::adjacency::decode), the named belts that leave each junction (route::relax::exits), its rules (route::clauses::decode) and the counts
     // (pick::rule_counts). The search is changed here alone: each function that it were handed on to would copy it.
     pub fn step(
         mut self,

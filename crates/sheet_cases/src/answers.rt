@@ -79,7 +79,8 @@ fn lowest_of(p: &[u8], r: Route) -> Lowest
     requires { ⌜ Accepted (now p) × Known (now p) r ⌝ }
 {
     let places = plan::named::named_places(p);
-    let clauses = route::clauses::of_plan(p, &places);
+    let mut clauses = [0u32; 2048];
+    route::clauses::decode(p, &places, &mut clauses);
     route::modes::lowest_setting(p, &clauses, route::masks::on_route(&places, r))
 }
 

@@ -13,35 +13,42 @@ use Rattle.route.proofs.rules.met_by.Tie as tie
 named-places-requires : tie.Need-named-places-requires
 named-places-requires c κs = search needs
 
-of-plan-requires : tie.Need-of-plan-requires
-of-plan-requires c κs = search needs
+decode-requires : tie.Need-decode-requires
+decode-requires c κs = search needs
+
+-- where the places were made, and where all was asked for
+abbrev made : tie.After-decode → tie.After-named-places
+made c = c .before .before .before
+
+abbrev begun : tie.After-decode → tie.Start
+begun c = made c .before .before
 
 on-route-requires : tie.Need-on-route-requires
 on-route-requires c κs =
-    let made = c .before .before .before .before in
-    let start = made .before .before in
-    route-placeable (start .pre .0) (start .args .route) (start .pre .1) (made .named-places .ensures)
+    let decoded = c .before .before in
+    let start = begun decoded in
+    route-placeable (start .pre .0) (start .args .route) (start .pre .1) (made decoded .named-places .ensures)
 
 -- the mask of the route
-masked : (c : tie.After-on-route) → c .on-route .result ≡ maskOf (c .before .before .before .before .before .before .before .args .p .now) (idsOf (c .before .before .before .before .before .before .before .args .route))
+masked : (c : tie.After-on-route) → let start = begun (c .before .before .before) in c .on-route .result ≡ maskOf (start .args .p .now) (idsOf (start .args .route))
 masked c =
-    let made = c .before .before .before .before .before in
-    let route = made .before .before .args .route in
-    c .on-route .ensures ∙ ap (λ (ps : List ℕ). gatheredIn ps 0 (idsOf route)) (made .named-places .ensures)
+    let decoded = c .before .before .before in
+    c .on-route .ensures ∙ ap (λ (ps : List ℕ). gatheredIn ps 0 (idsOf (begun decoded .args .route))) (made decoded .named-places .ensures)
 
 all-met-requires : tie.Need-all-met-requires
 all-met-requires c κs =
-    let start = c .before .before .before .before .before .before .before in
+    let decoded = c .before .before .before in
+    let start = begun decoded in
     let route = start .args .route in
     let low = known-low (start .pre .0) route (start .pre .1) in (
       start .pre .0,
-      c .before .before .before .of-plan .ensures,
+      decoded .decode .ensures,
       subst (OfNamed (start .args .p .now)) (sym (masked c)) (mask-named (start .pre .0) (idsOf route) low),
     )
 
 returns : tie.Need-returns
 returns c =
-    let start = c .before .before .before .before .before .before .before .before in
+    let start = begun (c .before .before .before .before) in
     let p = start .args .p .now in
     let σ = start .args .setting in
     c .all-met .ensures
@@ -51,4 +58,4 @@ returns c =
 pub met-by-spec : {M : Type 1} → statement M
 met-by-spec =
     tie.close
-    (tie.spec named-places-requires of-plan-requires on-route-requires all-met-requires returns)
+    (tie.spec named-places-requires decode-requires on-route-requires all-met-requires returns)

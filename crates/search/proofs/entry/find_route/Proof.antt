@@ -16,8 +16,8 @@ decode-requires c κs = search needs
 exits-requires : tie.Need-exits-requires
 exits-requires c κs = search needs
 
-of-plan-requires : tie.Need-of-plan-requires
-of-plan-requires c κs = search needs
+decode-requires-2 : tie.Need-decode-requires-2
+decode-requires-2 c κs = search needs
 
 rule-counts-requires : tie.Need-rule-counts-requires
 rule-counts-requires c κs = search needs
@@ -30,18 +30,18 @@ enum-told c = search needs
 
 -- where the run began
 abbrev begun : tie.After-run → tie.Start
-begun c = c .before .before .before .before .before .before .before .before .before .before .before .before .before .before .before .before .before .before .before
+begun c = c .before .before .before .before .before .before .before .before .before .before .before .before .before .before .before .before .before .before .before .before
 
 -- where its rules were made
-abbrev ruled : tie.After-run → tie.After-of-plan
+abbrev ruled : tie.After-run → tie.After-decode2
 ruled c = c .before .before .before .before .before .before .before .before
 
 write-best-requires : tie.Need-write-best-requires
 write-best-requires c κs =
     let ran = c .before .before .before .before .before .before in
     let start = begun ran in
-    let places = ran .before .before .before .before .before .before .before .before .before .before .before .before .before .before .before .before .named-places .ensures in
-    (start .pre .0, places, ruled ran .of-plan .ensures, ran .run .ensures .1, start .pre .2)
+    let places = ran .before .before .before .before .before .before .before .before .before .before .before .before .before .before .before .before .before .named-places .ensures in
+    (start .pre .0, places, ruled ran .decode2 .ensures, ran .run .ensures .1, start .pre .2)
 
 enum-told-2 : tie.Need-enum-told-2
 enum-told-2 c = search needs
@@ -100,7 +100,7 @@ find-route-spec =
     named-places-requires
     decode-requires
     exits-requires
-    of-plan-requires
+    decode-requires-2
     rule-counts-requires
     run-requires
     enum-told

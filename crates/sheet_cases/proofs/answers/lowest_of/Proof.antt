@@ -11,24 +11,31 @@ use Rattle.sheet_cases.proofs.answers.lowest_of.Tie as tie
 named-places-requires : tie.Need-named-places-requires
 named-places-requires c κs = search needs
 
-of-plan-requires : tie.Need-of-plan-requires
-of-plan-requires c κs = search needs
+decode-requires : tie.Need-decode-requires
+decode-requires c κs = search needs
+
+-- where the places were made, and where all was asked for
+abbrev made : tie.After-decode → tie.After-named-places
+made c = c .before .before .before
+
+abbrev begun : tie.After-decode → tie.Start
+begun c = made c .before .before
 
 on-route-requires : tie.Need-on-route-requires
 on-route-requires c κs =
-    let made = c .before .before .before .before in
-    let start = made .before .before in
-    route-placeable (start .pre .0) (start .args .r) (start .pre .1) (made .named-places .ensures)
+    let decoded = c .before .before in
+    let start = begun decoded in
+    route-placeable (start .pre .0) (start .args .r) (start .pre .1) (made decoded .named-places .ensures)
 
 lowest-setting-requires : tie.Need-lowest-setting-requires
 lowest-setting-requires c κs =
-    let made = c .before .before .before .before .before in
-    let start = made .before .before in
+    let decoded = c .before .before .before in
+    let start = begun decoded in
     let es = idsOf (start .args .r) in
-    let mask = c .on-route .ensures ∙ ap (λ (ps : List ℕ). gatheredIn ps 0 es) (made .named-places .ensures) in
+    let mask = c .on-route .ensures ∙ ap (λ (ps : List ℕ). gatheredIn ps 0 es) (made decoded .named-places .ensures) in
     let low = known-low (start .pre .0) (start .args .r) (start .pre .1) in (
       start .pre .0,
-      c .before .before .before .of-plan .ensures,
+      decoded .decode .ensures,
       subst (OfNamed (start .args .p .now)) (sym mask) (mask-named (start .pre .0) es low),
     )
 
@@ -38,4 +45,4 @@ returns c = search needs
 pub lowest-of-spec : {M : Type 1} → statement M
 lowest-of-spec =
     tie.close
-    (tie.spec named-places-requires of-plan-requires on-route-requires lowest-setting-requires returns)
+    (tie.spec named-places-requires decode-requires on-route-requires lowest-setting-requires returns)

@@ -1,13 +1,15 @@
--- `clauses::of_plan` meets its contract: storing the entries of the rules left makes the whole (RulesStored). Assumes nothing.
-use Prim.Native.Nat.{_<_}
+-- `clauses::decode` meets its contract: storing the entries of the rules left makes the whole (RulesStored). Assumes nothing.
+use mathlib.Core.Path.{sym, subst}
+use mathlib.Core.List.{List}
+use Prim.Native.Nat.{ℕ, _<_}
 use native.Mathlib.Omega.{arith}
 use borrow.Author.Needs.{needs}
-use lib.ListN.{length}
+use lib.ListN.{length, set}
 use Rattle.plan.specs.Reading.{IsRule, rulesFrom}
 use Rattle.route.proofs.Ahead.{rule-shorter}
 use Rattle.route.proofs.Entries.{RulesStored, rules-start, rules-stored, rules-end, rule-low, next-rule-low, first-literal-low}
-use Rattle.route.proofs.clauses.of_plan.Statement.{statement}
-use Rattle.route.proofs.clauses.of_plan.Tie as tie
+use Rattle.route.proofs.clauses.decode.Statement.{statement}
+use Rattle.route.proofs.clauses.decode.Tie as tie
 
 abbrev Inv-loop : tie.InvT-loop
 Inv-loop p places clauses₀ rule₀ clauses rule = RulesStored p clauses (rule .0)
@@ -21,11 +23,14 @@ first-rule-requires c κs = c .before .pre .0
 cast-clauses : tie.Need-cast-clauses Inv-loop μ-loop
 cast-clauses c = search needs
 
-array-write-clauses : tie.Need-array-write-clauses Inv-loop μ-loop
-array-write-clauses c = omega arith
+element-write-clauses : tie.Need-element-write-clauses Inv-loop μ-loop
+element-write-clauses c = omega arith
 
 loop-holds : tie.Need-loop-holds Inv-loop μ-loop
-loop-holds c = rules-start (c .before .before .before .pre .0) _ (c .before .first-rule .ensures)
+loop-holds c =
+    let start = c .before .before .before in
+    let at = c .before .first-rule in
+    subst (λ (l : List ℕ). RulesStored (start .args .p .now) (set l 0 (at .result .0)) (at .result .0)) (sym (start .pre .2)) (rules-start (start .pre .0) _ (at .ensures))
 
 -- the rule of this turn
 rule-is : (c : tie.Then1 Inv-loop μ-loop) → IsRule (c .before .before .before .before .before .before .args .p .now) (c .before .before .loop .rule .0)
@@ -69,8 +74,8 @@ cast-clauses-4 c = omega (arith, place-low (c .before .before .before .before .b
 mul-clauses-2 : tie.Need-mul-clauses-2 Inv-loop μ-loop
 mul-clauses-2 c = omega (arith, place-low (c .before .before .before .before .before))
 
-array-write-clauses-2 : tie.Need-array-write-clauses-2 Inv-loop μ-loop
-array-write-clauses-2 c = place-low (c .before .before .before .before .before)
+element-write-clauses-2 : tie.Need-element-write-clauses-2 Inv-loop μ-loop
+element-write-clauses-2 c = place-low (c .before .before .before .before .before)
 
 put-literals-requires : tie.Need-put-literals-requires Inv-loop μ-loop
 put-literals-requires c κs =
@@ -96,15 +101,15 @@ loop-again c =
 returns : tie.Need-returns Inv-loop μ-loop
 returns c = let at = c .before .before in rules-end (at .before .before .before .before .pre .0) (at .loop .inv) (c .if1 .left)
 
-pub of-plan-spec : {M : Type 1} → statement M
-of-plan-spec =
+pub decode-spec : {M : Type 1} → statement M
+decode-spec =
     tie.close
     (tie.spec
     Inv-loop
     μ-loop
     first-rule-requires
     cast-clauses
-    array-write-clauses
+    element-write-clauses
     loop-holds
     first-literal-requires
     next-rule-requires
@@ -114,7 +119,7 @@ of-plan-spec =
     add-clauses
     cast-clauses-4
     mul-clauses-2
-    array-write-clauses-2
+    element-write-clauses-2
     put-literals-requires
     loop-less
     loop-again
