@@ -43,9 +43,20 @@ code-half : (v : ℕ) (w : Bool) → codeBy v w / 2 ≡ v
 code-half v true = omega arith
 code-half v false = omega arith
 
-code-last : (v : ℕ) (w : Bool) → eqb (codeBy v w % 2) 1 ≡ w
-code-last v true = let e : (2 * v + 1) % 2 ≡ 1 = omega arith in ap (λ (n : ℕ). eqb n 1) e
-code-last v false = let e : (2 * v) % 2 ≡ 0 = omega arith in ap (λ (n : ℕ). eqb n 1) e
+-- a bit is as wanted
+bit-as : (n v : ℕ) (w : Bool) → n < 2 → eqb n (codeBy v w % 2) ≡ Bool·beq (eqb n 1) w
+bit-as n v true h = let e : (2 * v + 1) % 2 ≡ 1 = omega arith in ap (eqb n) e ∙ go n h
+  where
+    go : (k : ℕ) → k < 2 → eqb k 1 ≡ Bool·beq (eqb k 1) true
+    go zero l = refl
+    go (suc zero) l = refl
+    go (suc (suc k)) l = absurd (omega arith)
+bit-as n v false h = let e : (2 * v) % 2 ≡ 0 = omega arith in ap (eqb n) e ∙ go n h
+  where
+    go : (k : ℕ) → k < 2 → eqb k 0 ≡ Bool·beq (eqb k 1) false
+    go zero l = refl
+    go (suc zero) l = refl
+    go (suc (suc k)) l = absurd (omega arith)
 
 code-low : (v : ℕ) (w : Bool) → v < 64 → codeBy v w < 128
 code-low v true h = omega arith
@@ -53,7 +64,7 @@ code-low v false h = omega arith
 
 -- a literal holds where its variable is as wanted
 code-true : (on v : ℕ) (w : Bool) → isTrue on (codeBy v w) ≡ Bool·beq (eqb (on / 2 ^ v % 2) 1) w
-code-true on v w = λ i. Bool·beq (eqb (on / 2 ^ code-half v w i % 2) 1) (code-last v w i)
+code-true on v w = ap (λ (k : ℕ). eqb (on / 2 ^ k % 2) (codeBy v w % 2)) (code-half v w) ∙ bit-as (on / 2 ^ v % 2) v w (omega arith)
 
 pub codable-low : (places : List ℕ) (x : Literal) → Codable places x → codeIn places x < 128
 codable-low places (OfBelt e w) h = code-low (getD places (e .0) 0 - 1) w (omega (arith, h .2))

@@ -6,7 +6,7 @@
 --                      before the one that e leads to
 --   remaining-step     a route from u is admitted by what remains from u on exactly when its first belt goes and the rest is admitted by
 --                      what remains from there on
---   way-end, way-past  the way on from t is empty, and past t there is none
+--   way-end            the way on from t is empty; relaxed-past: past t there is no route
 --   way-route          a way on is a route; way-length: it has at most t - u belts
 --   way-next           what follows the first belt of a way on is the way on from where it leads
 --   way-through        where no way on leads from the junction that a required belt leaves, none leads from an earlier one
@@ -183,8 +183,8 @@ module _ {b : List ℕ} (ok : Accepted b) (x : Subproblem) (t : ℕ) where
       (owed-admits ok x t t [] (record { has = λ g l. absurd (omega (arith, l .from, l .before-t)); allowed = λ e m. refl }))
       (λ q h a. ap (λ (r : List Belt). before r []) (ends-claim b ok t t q h .1 refl))
 
-  pub way-past : (u : ℕ) → t < u → wayOn (planOf b) x t u ≡ none
-  way-past u l = no-relaxed ok u t (remaining (planOf b) x t u) (λ q h a. omega (arith, ends-claim b ok u t q h .0))
+  pub relaxed-past : (u : ℕ) → t < u → relaxed (planOf b) u t x ≡ none
+  relaxed-past u l = no-relaxed ok u t x (λ q h a. omega (arith, ends-claim b ok u t q h .0))
 
   pub way-route : (u : ℕ) (r : List Belt) → wayOn (planOf b) x t u ≡ some r → IsRoute (planOf b) u t r
   way-route u r h = relaxed-some ok u t (remaining (planOf b) x t u) r h .0

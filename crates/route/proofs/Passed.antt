@@ -28,7 +28,7 @@ use Rattle.route.specs.declared.relax.Way.{Way}
 use Rattle.route.specs.Routes.{costLimit}
 use Rattle.route.specs.Subproblems.{Subproblem}
 use Rattle.route.specs.Inner.{isRequired, wayOn, wayCost, noWay, wayBy, Begins}
-use Rattle.route.proofs.Onward.{Owed, way-end, way-past, way-length, way-through}
+use Rattle.route.proofs.Onward.{Owed, way-end, way-length, way-through}
 use Rattle.route.proofs.Ways.{Costs, Found, Nearest, nearest-start, nearest-moved, nearest-kept, cost-low, way-lost, way-is}
 
 pub record Passed (b : List ℕ) (x : Subproblem) (t u nearest : ℕ) (costs : List ℕ) (firsts : List BeltId) : Type 0 where
@@ -66,23 +66,20 @@ set-low m (y ∷ l) (suc i) a h all (suc j) = set-low m l i a h (λ k. all (suc 
 
 module _ {b : List ℕ} (ok : Accepted b) (bytes : Bytes b) (x : Subproblem) (t : ℕ) (inside : t ≤ planOf b .junctions) where
   -- the arrays by their size n, so that they are not written out
-  start : (n : ℕ) → n ≡ 257 → Passed b x t t t (set (replicate n costLimit) t 0) (replicate n (beltId 0))
+  start : (n : ℕ) → n ≡ 257 → Passed b x t t t (replicate n 0) (replicate n (beltId 0))
   start n size =
-      let costs = replicate n costLimit in
       let room = plan-sizes ok .1 in
-      let long = length-replicate n costLimit in
-      let beyond : (j : ℕ) → t < j → Costs b x t j (getD costs j 0) =
-      λ j l h. getD-replicate n j costLimit 0 (omega arith) ∙ sym (ap wayCost (way-past ok x t j l)) in
+      let at-t : (j : ℕ) → t ≤ j → j ≤ t → j ≡ t = λ j l h. omega arith in
       record {
         inside = omega arith;
-        sizes = (length-set costs t 0 ∙ long ∙ size, length-replicate n (beltId 0) ∙ size);
-        low = set-low costLimit costs t 0 (omega arith) (replicate-low n costLimit);
-        priced = stored-on (Costs b x t) 0 0 costs t (omega arith) (λ h. sym (ap wayCost (way-end ok x t))) beyond;
+        sizes = (length-replicate n 0 ∙ size, length-replicate n (beltId 0) ∙ size);
+        low = λ j. omega (arith, replicate-low n 0 j);
+        priced = λ j l h. getD-replicate n j 0 0 (omega arith) ∙ sym (ap wayCost (ap (wayOn (planOf b) x t) (at-t j l h) ∙ way-end ok x t));
         guides = λ j l e r h. absurd (omega (arith, way-length ok x t j (e ∷ r) h));
         near = nearest-start;
       }
 
-  pub passed-start : Passed b x t t t (set (replicate 257 costLimit) t 0) (replicate 257 (beltId 0))
+  pub passed-start : Passed b x t t t (replicate 257 0) (replicate 257 (beltId 0))
   passed-start = start 257 refl
 
   -- u is the junction before those that are done, and way is what its belts give

@@ -38,9 +38,9 @@ use Rattle.route.proofs.Firsts.{relaxed-some, relaxed-none, is-relaxed,
 use Rattle.route.proofs.Onward.{Owed, owed-between, Goes, remaining-step, way-route}
 use Rattle.route.proofs.Looking.{by-none, by-some, over-open, over-shut, Alone, Wins, Looked, blocked, chosen, looked, looked-required}
 
--- the way on from junction j costs c
+-- the way on from junction j, which is not past t, costs c
 abbrev pub Costs : List ℕ → Subproblem → ℕ → ℕ → ℕ → Type 0
-Costs b x t j c = j ≤ planOf b .junctions → c ≡ wayCost (wayOn (planOf b) x t j)
+Costs b x t j c = j ≤ t → c ≡ wayCost (wayOn (planOf b) x t j)
 
 pub record Found (b : List ℕ) (x : Subproblem) (t u : ℕ) (way : Way) : Type 0 where
   pub costBy : way .cost ≡ wayCost (wayOn (planOf b) x t u)
@@ -117,7 +117,7 @@ module _ {b : List ℕ} (ok : Accepted b) (bytes : Bytes b) (x : Subproblem) (t 
     on-open e m h k =
         let (i, v) = leaving-in (planOf b) u e m in
         let (low, up, top) = belt-ends ok e i in
-        over-open costs nearest (isForbidden x e) e h (le-ltb nearest (e .leads) k) ∙ ap (onBy e) (priced (e .leads) (omega arith) top)
+        over-open costs nearest (isForbidden x e) e h (le-ltb nearest (e .leads) k) ∙ ap (onBy e) (priced (e .leads) (omega arith) (omega (arith, n .within)))
 
     leads-price : (e : Belt) (r : List Belt) → List·Memᴰ e here → Leads e r → on e ≡ cost (e ∷ r)
     leads-price e r m k =

@@ -75,7 +75,7 @@ Codable places (OfBelt e wanted) = (e .0 < 2048) × (1 ≤ getD places (e .0) 0)
 Codable places (OfMode m wanted) = m .0 ≤ 10
 
 abbrev pub isTrue : ℕ → ℕ → Bool
-isTrue on c = Bool·beq (eqb (on / 2 ^ (c / 2) % 2) 1) (eqb (c % 2) 1)
+isTrue on c = eqb (on / 2 ^ (c / 2) % 2) (c % 2)
 
 abbrev pub stores : (ℕ → ℕ) → List ℕ → List ℕ → List ℕ
 stores f l [] = l

@@ -209,12 +209,11 @@ fn ways_to(
     s: usize,
     t: usize,
 ) -> Ways
-    requires { ⌜ Lent (now p) (now places) (now ends) (now arcs) × (now exits ≡ exitsOf (now p)) × (1 ≤ s) × (s ≤ planOf (now p) .junctions) × (t ≤ planOf (now p) .junctions) × OfNamed (now p) (fixings .required) ⌝ }
+    requires { ⌜ Lent (now p) (now places) (now ends) (now arcs) × (now exits ≡ exitsOf (now p)) × (1 ≤ s) × (s ≤ t) × (t ≤ planOf (now p) .junctions) × OfNamed (now p) (fixings .required) ⌝ }
     ensures { λ v. ⌜ (v .cost ≡ wayCost (wayIn (now (p .entry)) fixings t s)) × Guides (now (p .entry)) fixings t s (v .firsts) ⌝ }
 {
-    let mut costs = [NO_WAY; 257];
+    let mut costs = [0u64; 257];
     let mut firsts = [BeltId(0); 257];
-    costs[t] = 0;
     let mut nearest = t;
     let mut u = t;
     while s < u {
@@ -311,6 +310,9 @@ pub fn relaxed_route(
 {
     let s = trip.s as usize;
     let t = trip.t as usize;
+    if t < s {
+        return nothing();
+    }
     if fixings.required & inside(exits, s, t) != fixings.required {
         return nothing();
     }

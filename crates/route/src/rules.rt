@@ -20,7 +20,7 @@ fn is_true(on: u64, code: u32) -> bool
     requires { ⌜ code < 128 ⌝ }
     ensures { λ v. ⌜ v ≡ isTrue on code ⌝ }
 {
-    ((on >> (code / 2)) % 2 == 1) == (code % 2 == 1)
+    (on >> (code / 2)) % 2 == (code % 2) as u64
 }
 
 // Whether every rule has a literal that holds, where the named belts of the mask `belts` are on the route; a rule is left as soon as one does.

@@ -18,17 +18,11 @@ abbrev μ-loop : tie.MeasureT-loop
 inside : (c : tie.Start Inv-loop μ-loop) → (c .args .s < 257) × (c .args .t < 257)
 inside c =
     let few = plan-sizes (c .pre .0 .accepted) .1 in
-    (omega (arith, c .pre .3), omega (arith, c .pre .4))
+    (omega (arith, c .pre .3, c .pre .4), omega (arith, c .pre .4))
 
 -- that the plan is made of bytes is told by holding it
 bytes : (c : tie.After-shared-slice-known Inv-loop μ-loop) → Bytes (c .before .args .p .now)
 bytes c i = c .shared-slice-known .given i .fits
-
-mul-costs : tie.Need-mul-costs Inv-loop μ-loop
-mul-costs c = omega (arith, inside (c .before) .1)
-
-array-write-costs : tie.Need-array-write-costs Inv-loop μ-loop
-array-write-costs c = inside (c .before) .1
 
 loop-holds : tie.Need-loop-holds Inv-loop μ-loop
 loop-holds c =
@@ -49,11 +43,11 @@ way-from-requires c κs =
 below : (c : tie.In-loop Inv-loop μ-loop) → c .before .loop .u - 1 < 257
 below c = omega (arith, c .before .loop .inv .inside, inside (c .before .before .before) .1)
 
-mul-costs-2 : tie.Need-mul-costs-2 Inv-loop μ-loop
-mul-costs-2 c = omega (arith, below (c .before .before .before))
+mul-costs : tie.Need-mul-costs Inv-loop μ-loop
+mul-costs c = omega (arith, below (c .before .before .before))
 
-array-write-costs-2 : tie.Need-array-write-costs-2 Inv-loop μ-loop
-array-write-costs-2 c = below (c .before .before .before)
+array-write-costs : tie.Need-array-write-costs Inv-loop μ-loop
+array-write-costs c = below (c .before .before .before)
 
 mul-firsts : tie.Need-mul-firsts Inv-loop μ-loop
 mul-firsts c = omega (arith, below (c .before .before .before))
@@ -102,11 +96,11 @@ loop-again-2 c =
     passed-kept (start .pre .0 .accepted) (bytes (at .before)) x (start .args .t) (start .pre .4)
     (omega (arith, turn .loop-test .taken)) (at .loop .inv) (called .way-from .ensures) (c .if1 .left)
 
-mul-t16 : tie.Need-mul-t16 Inv-loop μ-loop
-mul-t16 c = omega (arith, inside (c .before .before .before) .0)
+mul-t25 : tie.Need-mul-t25 Inv-loop μ-loop
+mul-t25 c = omega (arith, inside (c .before .before .before) .0)
 
-array-read-t30 : tie.Need-array-read-t30 Inv-loop μ-loop
-array-read-t30 c = inside (c .before .before .before) .0
+array-read-t28 : tie.Need-array-read-t28 Inv-loop μ-loop
+array-read-t28 c = inside (c .before .before .before) .0
 
 returns-2 : tie.Need-returns-2 Inv-loop μ-loop
 returns-2 c =
@@ -121,13 +115,11 @@ ways-to-spec =
     (tie.spec
     Inv-loop
     μ-loop
-    mul-costs
-    array-write-costs
     loop-holds
     sub-u
     way-from-requires
-    mul-costs-2
-    array-write-costs-2
+    mul-costs
+    array-write-costs
     mul-firsts
     array-set-from-firsts
     returns
@@ -135,6 +127,6 @@ ways-to-spec =
     loop-again
     loop-less-2
     loop-again-2
-    mul-t16
-    array-read-t30
+    mul-t25
+    array-read-t28
     returns-2)
