@@ -31,7 +31,7 @@ use Rattle.plan.specs.Plan.{Belt, Plan, planOf, beltAt, beltRecords, lea
 use Rattle.plan.specs.Reading.{Accepted, Bytes}
 use Rattle.plan.specs.Adjacency.{arcOf, arcCost, arcHead, arcName, inOrder, arcsOf, endsOf}
 use Rattle.plan.proofs.Lists.{length-run, run-split, getD-run}
-use Rattle.plan.proofs.Counts.{length-keep}
+use Rattle.plan.proofs.Counts.{length-keep, count-few}
 use Rattle.plan.proofs.Forms.{few}
 use Rattle.plan.proofs.Places.{drop-replicate}
 use Rattle.plan.proofs.Accepted.{accepted-passed}
@@ -49,14 +49,6 @@ module _ {b : List ℕ} (ok : Accepted b) (bytes : Bytes b) where
       (omega arith, omega arith, omega arith)
 
 -- ---- belts in order
-
-count-few : {A : Type 0} (f : A → Bool) (xs : List A) → count f xs ≤ length xs
-count-few f [] = omega arith
-count-few f (x ∷ xs) = go (f x) (count-few f xs)
-  where
-    go : (t : Bool) → count f xs ≤ length xs → counted t (count f xs) ≤ suc (length xs)
-    go true h = omega arith
-    go false h = omega arith
 
 -- those that leave a junction up to u, and those that leave the next, are among those that leave a junction up to the next
 one-further : (u : ℕ) (es : List Belt)

@@ -1,7 +1,7 @@
 -- How many elements of a list pass a test, which they are, and loops that count.
 --
 --   length-keep            as many are kept as pass
---   count-none             none is counted where none passes
+--   count-few              no more pass than there are; count-none: none is counted where none passes
 --   count-step, keep-first, keep-rest
 --                          a loop that counts r up to hi: what r adds
 --   count-done, keep-done  it is over
@@ -11,6 +11,7 @@ use mathlib.Core.Path.{_≡_, refl, ap, _∙_}
 use mathlib.Core.Bool.{Bool, true, false}
 use Prim.Native.Nat.{ℕ, suc, _+_, _≤_, _<_}
 use mathlib.Core.List.{List, [], _∷_, List·Memᴰ, List·Memᴰ·head, List·Memᴰ·tail}
+use native.Mathlib.Omega.{arith}
 use lib.ListN.{length}
 use Rattle.plan.specs.Lists.{kept, keep, counted, count, upto}
 use Rattle.plan.proofs.Lists.{upto-step, upto-end}
@@ -22,6 +23,15 @@ length-keep {A} f (x ∷ xs) = go (f x) (length-keep f xs)
     go : (t : Bool) → length (keep f xs) ≡ count f xs → length (kept t x (keep f xs)) ≡ counted t (count f xs)
     go true e = ap suc e
     go false e = e
+
+-- no more pass than there are
+pub count-few : {A : Type 0} (f : A → Bool) (xs : List A) → count f xs ≤ length xs
+count-few f [] = omega arith
+count-few f (x ∷ xs) = go (f x) (count-few f xs)
+  where
+    go : (t : Bool) → count f xs ≤ length xs → counted t (count f xs) ≤ suc (length xs)
+    go true h = omega arith
+    go false h = omega arith
 
 pub count-none : {A : Type 0} (f : A → Bool) (xs : List A) → ((a : A) → List·Memᴰ a xs → f a ≡ false) → count f xs ≡ 0
 count-none f [] h = refl

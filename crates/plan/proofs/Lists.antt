@@ -257,6 +257,13 @@ module _ {A : Type 0} (f : ℕ → A) where
       ext-getD d l (map f (run lo n)) (s ∙ sym (length-map (run lo n) f ∙ length-run lo n)) (λ i u.
       let k : i < n = omega arith in h i k ∙ sym (getD-run lo n i d k))
 
+  -- the same of a run from 0
+  pub getD-first : (n i : ℕ) (d : A) → i < n → getD (map f (run 0 n)) i d ≡ f i
+  getD-first n i d h = let e : 0 + i ≡ i = omega arith in getD-run 0 n i d h ∙ ap f e
+
+  pub map-first : (n : ℕ) (d : A) (l : List A) → length l ≡ n → ((i : ℕ) → i < n → getD l i d ≡ f i) → l ≡ map f (run 0 n)
+  map-first n d l s h = map-run 0 n d l s (λ i k. let e : i ≡ 0 + i = omega arith in h i k ∙ ap f e)
+
 pub upto-step : (lo hi : ℕ) → lo < hi → upto lo hi ≡ lo ∷ upto (lo + 1) hi
 upto-step lo hi h =
     let e : hi - lo ≡ suc (hi - (lo + 1)) = omega arith in

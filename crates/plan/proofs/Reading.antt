@@ -6,6 +6,8 @@
 --   leaving-from, belts-end, belts-next, first-belt-is, next-belt-is             the belts leaving a junction
 --   rules-from, rules-end, rules-next, first-rule-is, next-rule-is               the rules
 --   literals-end, literals-next, first-literal-is, next-literal-is               the literals of a rule
+-- Behind them:
+--   links                   the links of the plan are right (Links.antt)
 -- Counts:
 --   plan-sizes              1 to 256 junctions, at most 10 modes
 -- Belts of the plan:
@@ -21,6 +23,7 @@
 --   belt-low                its name is above J, below N and below 2,048
 --   belt-cost, belts-cost   THE BOUND of a belt's cost, at a record and in the plan
 -- Rules and named belts:
+--   rule-in                 every rule record is a rule of the plan
 --   literal-belt, literal-mode   what a literal of a rule names
 --   named-few               at most 48; that they rise, and are exactly the belts in some rule, is in Naming.antt
 --                           (named-rises, in-named, named-of), and their places are in Places.antt
@@ -48,7 +51,7 @@ use Rattle.plan.proofs.Lists.{untrue, alike, in-keep, keep-in, in-map, 
 use Rattle.plan.proofs.Links.{Linked}
 use Rattle.plan.proofs.Rising.{Rises}
 use Rattle.plan.proofs.Passed.{linked}
-use Rattle.plan.proofs.Chains.{above, belts, literals, chain-end, belt-step, rule-step, literal-step, first-belt, next-belt, first-rule, next-rule, first-literal, next-literal, rule-chain-in, literal-chain-in, belt-reached, leaves-is, records-rise, belt-in-plan, plan-belt, leaving-chain}
+use Rattle.plan.proofs.Chains.{above, belts, literals, chain-end, belt-step, rule-step, literal-step, first-belt, next-belt, first-rule, next-rule, first-literal, next-literal, rule-chain-in, literal-chain-in, belt-reached, rule-reached, leaves-is, records-rise, belt-in-plan, plan-belt, leaving-chain}
 use Rattle.plan.proofs.Naming.{names-back}
 use Rattle.plan.proofs.Accepted.{accepted-passed}
 use Rattle.plan.proofs.Limits.{accepted-limits}
@@ -73,7 +76,7 @@ pub leaving-in : (p : Plan) (j : ℕ) (x : Belt) → List·Memᴰ x (leaving p j
 leaving-in p j x m = let (i, e) = keep-in (λ (y : Belt). eqb (y .leaves) j) (p .belts) m in (i, eqb-true (x .leaves) j e)
 
 module _ {b : List ℕ} (ok : Accepted b) where
-  links : Linked b
+  pub links : Linked b
   links = linked b (accepted-passed b (ok .unrefused) .0 .0)
 
   limits : Limits b
@@ -117,6 +120,9 @@ module _ {b : List ℕ} (ok : Accepted b) where
 
   pub next-rule-is : (r : ℕ) → IsRule b r → (nextRule b r ≡ 0 → ⊥) → (r < nextRule b r) × IsRule b (nextRule b r)
   next-rule-is = next-rule links
+
+  pub rule-in : (r : ℕ) → IsRule b r → List·Memᴰ (ruleAt b r) (planOf b .rules)
+  rule-in r o = subst (List·Memᴰ (ruleAt b r)) (sym rules-from) (in-map (ruleAt b) (rule-reached links r o))
 
   pub literals-end : literalsFrom b 0 ≡ []
   literals-end = ap (map (literalAt b)) (chain-end b)

@@ -14,7 +14,6 @@
 -- Assumes nothing.
 use Prim.Native.Nat.{ℕ}
 use mathlib.Core.List.{List}
-use lib.ListN.{length}
 use Rattle.route.specs.declared.path.Trip.{Trip}
 use Rattle.search.specs.declared.query.Query.{Query}
 use Rattle.search.specs.Answers.{Request, Outcome, refused, route, nothing, spent, replyTo, outAfter}

@@ -14,7 +14,6 @@
 --   route-cost       THE BOUND of its cost: 65,535 for each belt
 --   route-few, route-cheap
 --                    so between junctions it has at most 255 belts, and costs less than costLimit
---   cost-append      the cost of two lists in a row is the sum of theirs
 --   ends-junctions   s and t are junctions where they are no wrong ends
 -- Routes as the code holds them:
 --   ids-packed       a packed route holds the belts that were packed
@@ -124,10 +123,6 @@ route-belts p s t (f ∷ r) h e m = each (λ (e : Belt). List·Memᴰ e (p .belt
 pub passes-names : (r : List Belt) (e : ℕ) → passes r e ≡ mem e (namesOf r)
 passes-names [] e = refl
 passes-names (x ∷ r) e = λ i. eqb-sym (x .name) e i || passes-names r e i
-
-pub cost-append : (x y : List Belt) → cost (x ++ y) ≡ cost x + cost y
-cost-append [] y = omega arith
-cost-append (e ∷ x) y = omega (arith, cost-append x y)
 
 pub ends-junctions : (p : Plan) (s t : ℕ) → wrongEnds p s t ≡ false → (1 ≤ s) × (s ≤ p .junctions) × (1 ≤ t) × (t ≤ p .junctions)
 ends-junctions p s t h =

@@ -26,21 +26,18 @@ use Rattle.route.specs.declared.relax.Way.{Way}
 use Rattle.route.specs.Routes.{costLimit}
 use Rattle.route.specs.Subproblems.{Subproblem}
 use Rattle.route.specs.Inner.{isRequired, isForbidden, costBy, noWay, preferred, wayBy}
-use Rattle.route.proofs.Looking.{by-none, by-some, over-open, over-shut}
-
-abbrev pub made : ℕ → BeltId → Way
-made k g = record { cost = k; belt = g; required = false }
+use Rattle.route.proofs.Looking.{made, by-none, by-some, over-open, over-shut}
 
 pub record Cheap (x : Subproblem) (costs : List ℕ) (nearest : ℕ) (whole : Way) (k : ℕ) (g : BeltId) (es : List Belt) : Type 0 where
   pub low : k ≤ costLimit
   free : any (isRequired x) es ≡ false
-  same : wayBy x costs nearest (made k g) es ≡ whole
+  same : wayBy x costs nearest (made k g false) es ≡ whole
 
 module _ {x : Subproblem} {costs : List ℕ} {nearest : ℕ} where
   pub cheap-start : (es : List Belt) → any (isRequired x) es ≡ false → Cheap x costs nearest (wayBy x costs nearest noWay es) costLimit (beltId 0) es
   cheap-start es free = record { low = omega arith; free = free; same = refl }
 
-  pub cheap-end : {whole : Way} {k : ℕ} {g : BeltId} → Cheap x costs nearest whole k g [] → made k g ≡ whole
+  pub cheap-end : {whole : Way} {k : ℕ} {g : BeltId} → Cheap x costs nearest whole k g [] → made k g false ≡ whole
   cheap-end c = c .same
 
   module _ {whole : Way} {k : ℕ} {g : BeltId} {e : Belt} {es : List Belt}
@@ -70,12 +67,12 @@ module _ {x : Subproblem} {costs : List ℕ} {nearest : ℕ} where
 
     -- the way once e is looked at
     abbrev after : Bool → Way
-    after less = elim less [ true ↦ made price (beltId (e .name)) | false ↦ made k g ]
+    after less = elim less [ true ↦ made price (beltId (e .name)) false | false ↦ made k g false ]
 
     looked : (less : Bool) → ltb price k ≡ less → wayBy x costs nearest (after less) es ≡ whole
     looked less h =
         sym (ap (λ (t : Bool). wayBy x costs nearest (after t) es) h)
-        ∙ sym (ap (λ (w : Bool). wayBy x costs nearest (preferred (made k g) (beltId (e .name)) price w) es) (others .0))
+        ∙ sym (ap (λ (w : Bool). wayBy x costs nearest (preferred (made k g false) (beltId (e .name)) price w) es) (others .0))
         ∙ c .same
 
     pub cheap-taken : over < k → shut ≡ false → Cheap x costs nearest whole over (beltId (e .name)) es
@@ -85,7 +82,7 @@ module _ {x : Subproblem} {costs : List ℕ} {nearest : ℕ} where
         record {
           low = omega arith;
           free = others .1;
-          same = ap (λ (n : ℕ). wayBy x costs nearest (made n (beltId (e .name))) es) (sym is) ∙ looked true (lt-ltb price k (omega arith));
+          same = ap (λ (n : ℕ). wayBy x costs nearest (made n (beltId (e .name)) false) es) (sym is) ∙ looked true (lt-ltb price k (omega arith));
         }
 
     -- it gets no cheaper by e

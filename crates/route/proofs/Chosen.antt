@@ -1,33 +1,30 @@
 -- Any choice of named belts as a mask.
 --
 --   bit-claim     bit k of a mask is for the k-th of the named belts (BitClaim)
---   maskOf ns es  the mask of the belts es, among the named belts ns
---   mask-low      it is of named belts; mask-has: it has exactly the belts es
+--   mask-low      the mask of named belts is of named belts; mask-in, in-mask: it fixes exactly these
 --   masks-claim   every subproblem of named belts has masks (MasksClaim)
 --
 -- Assumes nothing.
 use mathlib.Core.Path.{_≡_, refl, sym, _∙_, ap}
-use mathlib.Core.Bool.{Bool, true, _||_, or-comm}
+use mathlib.Core.Bool.{true}
 use mathlib.Core.Option.{Option, none, some}
 use Prim.Native.Nat.{ℕ, _^_, _<_}
-use mathlib.Core.List.{List, [], _∷_, List·Memᴰ, List·Memᴰ·head, List·Memᴰ·tail}
+use mathlib.Core.List.{List, List·Memᴰ}
 use lib.ListN.{length, getD}
-use lib.Dec.{eqb}
-use lib.Pow.{pow-pos}
 use Rattle.plan.specs.declared.named.Place.the-variants.{At}
 use Rattle.plan.specs.Lists.{mem}
 use Rattle.plan.specs.Plan.{Belt, planOf, named, placeOf}
 use Rattle.plan.specs.Reading.{Accepted}
 use Rattle.plan.proofs.Lists.{keep-in, in-mem, mem-in}
-use Rattle.plan.proofs.Rising.{Rises}
-use Rattle.plan.proofs.Naming.{named-rises}
+use Rattle.plan.proofs.Naming.{named-rises, named-in}
 use Rattle.plan.proofs.Places.{at-place, place-in, place-at}
+use Rattle.plan.proofs.Reading.{belt-low}
 use Rattle.route.specs.declared.relax.Fixings.{Fixings}
 use Rattle.route.specs.Subproblems.{Subproblem, admits, relaxed}
-use Rattle.route.specs.Values.{inMask, fixedIn, subproblemIn, withPlace}
+use Rattle.route.specs.Values.{inMask, fixedIn, subproblemIn, maskOf}
 use Rattle.route.specs.Claims.{BitClaim, MasksClaim}
 use Rattle.route.proofs.Firsts.{admits-is, is-admits, relaxed-some, relaxed-none, is-relaxed, no-relaxed}
-use Rattle.route.proofs.Fixed.{fixed-mem, nothing-has, with-low, with-belt}
+use Rattle.route.proofs.Fixed.{fixed-mem, gathered-from, gathered-low}
 
 pub bit-claim : BitClaim
 bit-claim b m k l =
@@ -36,33 +33,24 @@ bit-claim b m k l =
     let here : getD ns k 0 ≡ e = sym (ap (λ (j : ℕ). getD ns j 0) q) ∙ at-place e (named-rises b) i .0 in
     ap (λ (n : ℕ). mem n (fixedIn ns m)) here ∙ fixed-mem ns m e ∙ ap (inMask m) (place-in e ns i ∙ ap (λ (j : ℕ). At j) q)
 
--- the mask of the belts es
-abbrev pub maskOf : List ℕ → List ℕ → ℕ
-maskOf ns [] = 0
-maskOf ns (e ∷ es) = withPlace (maskOf ns es) (placeOf ns e)
+module _ {b : List ℕ} (ok : Accepted b) (es : List ℕ) (all : (e : ℕ) → List·Memᴰ e es → List·Memᴰ e (named (planOf b))) where
+  abbrev ns : List ℕ
+  ns = named (planOf b)
 
-module _ {ns : List ℕ} (rises : Rises ns) where
-  pub mask-low : (es : List ℕ) → ((e : ℕ) → List·Memᴰ e es → List·Memᴰ e ns) → maskOf ns es < 2 ^ length ns
-  mask-low [] h = pow-pos (length ns)
-  mask-low (e ∷ es) h = with-low rises (maskOf ns es) e (h e (List·Memᴰ·head refl)) (mask-low es (λ f m. h f (List·Memᴰ·tail m)))
+  low : (e : ℕ) → List·Memᴰ e es → e < 2048
+  low e m = belt-low ok e (named-in b e (all e m)) .2
 
-  pub mask-has : (es : List ℕ) → ((e : ℕ) → List·Memᴰ e es → List·Memᴰ e ns) → (e : ℕ) → List·Memᴰ e ns
-      → inMask (maskOf ns es) (placeOf ns e) ≡ mem e es
-  mask-has [] h e i = nothing-has ns e
-  mask-has (x ∷ es) h e i =
-      with-belt rises (maskOf ns es) x e (h x (List·Memᴰ·head refl)) i
-      ∙ ap (λ (t : Bool). t || eqb e x) (mask-has es (λ f m. h f (List·Memᴰ·tail m)) e i)
-      ∙ or-comm (mem e es) (eqb e x)
+  mask-low : maskOf b es < 2 ^ length ns
+  mask-low = gathered-low (named-rises b) refl es low
 
-  -- it fixes exactly the belts es
-  mask-in : (es : List ℕ) → ((e : ℕ) → List·Memᴰ e es → List·Memᴰ e ns) → (e : ℕ) → List·Memᴰ e es → List·Memᴰ e (fixedIn ns (maskOf ns es))
-  mask-in es h e m =
-      mem-in (fixedIn ns (maskOf ns es)) (fixed-mem ns (maskOf ns es) e ∙ mask-has es h e (h e m) ∙ in-mem es m)
+  -- the mask of the belts es fixes exactly these
+  mask-in : (e : ℕ) → List·Memᴰ e es → List·Memᴰ e (fixedIn ns (maskOf b es))
+  mask-in e m = mem-in (fixedIn ns (maskOf b es)) (fixed-mem ns (maskOf b es) e ∙ gathered-from (named-rises b) refl es low e (all e m) ∙ in-mem es m)
 
-  in-mask : (es : List ℕ) → ((e : ℕ) → List·Memᴰ e es → List·Memᴰ e ns) → (e : ℕ) → List·Memᴰ e (fixedIn ns (maskOf ns es)) → List·Memᴰ e es
-  in-mask es h e m =
-      let (i, k) = keep-in (λ (n : ℕ). inMask (maskOf ns es) (placeOf ns n)) ns m in
-      mem-in es (sym (mask-has es h e i) ∙ k)
+  in-mask : (e : ℕ) → List·Memᴰ e (fixedIn ns (maskOf b es)) → List·Memᴰ e es
+  in-mask e m =
+      let (i, k) = keep-in (λ (n : ℕ). inMask (maskOf b es) (placeOf ns n)) ns m in
+      mem-in es (sym (gathered-from (named-rises b) refl es low e i) ∙ k)
 
 -- what two subproblems with the same belts admit is the same
 admits-same : (x y : Subproblem) (r : List Belt) → ((e : ℕ) → List·Memᴰ e (y .required) → List·Memᴰ e (x .required))
@@ -81,13 +69,11 @@ relaxed-same {b} ok x y to from s t = go (relaxed (planOf b) s t x) refl
 
 pub masks-claim : MasksClaim
 masks-claim b ok x req forb =
-    let ns = named (planOf b) in
-    let rises = named-rises b in
-    let f : Fixings = record { required = maskOf ns (x .required); forbidden = maskOf ns (x .forbidden) } in (
+    let f : Fixings = record { required = maskOf b (x .required); forbidden = maskOf b (x .forbidden) } in (
       f,
-      mask-low rises (x .required) req,
-      mask-low rises (x .forbidden) forb,
+      mask-low ok (x .required) req,
+      mask-low ok (x .forbidden) forb,
       relaxed-same ok (subproblemIn b f) x
-          (λ r. admits-same (subproblemIn b f) x r (mask-in rises (x .required) req) (mask-in rises (x .forbidden) forb))
-          (λ r. admits-same x (subproblemIn b f) r (in-mask rises (x .required) req) (in-mask rises (x .forbidden) forb)),
+          (λ r. admits-same (subproblemIn b f) x r (mask-in ok (x .required) req) (mask-in ok (x .forbidden) forb))
+          (λ r. admits-same x (subproblemIn b f) r (in-mask ok (x .required) req) (in-mask ok (x .forbidden) forb)),
     )

@@ -8,7 +8,7 @@
 --   literal-true       it holds exactly when its code says so
 --
 -- Assumes nothing.
-use mathlib.Core.Path.{_≡_, refl, sym, _∙_, ap, subst}
+use mathlib.Core.Path.{_≡_, refl, sym, _∙_, ap}
 use mathlib.Core.Bool.{Bool, true, false, Bool·beq}
 use Prim.Native.Nat.{ℕ, zero, suc, _+_, _*_, _-_, _/_, _%_, _^_, _≤_, _<_}
 use mathlib.Core.List.{List, List·Memᴰ}
@@ -25,13 +25,10 @@ use Rattle.plan.specs.Lists.{count}
 use Rattle.plan.specs.Plan.{planOf, literalAt, ruleAt, beltAt, named, names, inRule, codePlace}
 use Rattle.plan.specs.Reading.{Accepted, IsLiteral}
 use Rattle.plan.proofs.Lists.{in-any, in-map}
-use Rattle.plan.proofs.Links.{Linked}
-use Rattle.plan.proofs.Passed.{linked}
-use Rattle.plan.proofs.Chains.{rule-reached, literal-reached}
+use Rattle.plan.proofs.Chains.{literal-reached}
 use Rattle.plan.proofs.Naming.{in-named, named-rises}
 use Rattle.plan.proofs.Places.{at-place, place-in, place-is}
-use Rattle.plan.proofs.Accepted.{accepted-passed}
-use Rattle.plan.proofs.Reading.{rules-from, literal-belt, literal-mode, belt-in, belt-low, named-few, plan-sizes}
+use Rattle.plan.proofs.Reading.{literal-belt, literal-mode, belt-in, belt-low, named-few, plan-sizes, links, rule-in}
 use Rattle.route.specs.Permission.{holds}
 use Rattle.route.specs.Values.{inMask, OfNamed, namedPlaces, hasBelt, codeBy, codeIn}
 use Rattle.route.specs.Inner.{Codable, isTrue}
@@ -108,9 +105,8 @@ module _ {b : List ℕ} (ok : Accepted b) where
   -- every literal is one of a rule of the plan
   literal-in : (l : ℕ) → IsLiteral b l → (rule : List Literal) × List·Memᴰ rule (planOf b .rules) × List·Memᴰ (literalAt b l) rule
   literal-in l o =
-      let links : Linked b = linked b (accepted-passed b (ok .unrefused) .0 .0) in
-      let (r, i, k) = literal-reached links l o in
-      (ruleAt b r, subst (List·Memᴰ (ruleAt b r)) (sym (rules-from ok)) (in-map (ruleAt b) (rule-reached links r i)), in-map (literalAt b) k)
+      let (r, i, k) = literal-reached (links ok) l o in
+      (ruleAt b r, rule-in ok r i, in-map (literalAt b) k)
 
   pub literal-codable : (l : ℕ) → IsLiteral b l → Codable (namedPlaces b) (literalAt b l)
   literal-codable l o = let (rule, m, k) = literal-in l o in codable-in m (literalAt b l) k

@@ -24,24 +24,21 @@ use mathlib.Core.Path.{_≡_, refl, sym, _∙_, ap, subst}
 use mathlib.Core.Logic.{_⊎_, inl, inr}
 use mathlib.Core.Bool.{Bool, true, false, _||_}
 use Prim.Native.Nat.{ℕ, zero, suc, _+_, _*_, _/_, _%_, _≤_, _<_}
-use mathlib.Core.List.{List, [], _∷_, _++_, map, List·Memᴰ, List·Memᴰ·head, List·Memᴰ·tail}
+use mathlib.Core.List.{List, [], _∷_, _++_, List·Memᴰ, List·Memᴰ·head, List·Memᴰ·tail}
 use native.Mathlib.Omega.{arith}
 use lib.ListN.{length, getD, set, replicate, length-set, length-replicate, getD-replicate, List·getD-eq-default}
 use lib.Seq.{getD-set-same, getD-set-other}
 use lib.Dec.{eqb, ltb}
 use borrow.Author.Tests.{eqb-true, eqb-false, eq-eqb, ne-eqb, ltb-true, ltb-false}
-use Rattle.plan.specs.Lists.{mem, joined, run}
+use Rattle.plan.specs.Lists.{mem, joined}
 use Rattle.plan.specs.Records.{kind, records, IsKind, chain}
 use Rattle.plan.specs.Plan.{literalAt}
 use Rattle.plan.specs.Limits.{Limits}
 use Rattle.plan.specs.Reading.{Accepted, IsRule, IsLiteral, firstRule, nextRule, firstLiteral, nextLiteral}
-use Rattle.plan.proofs.Lists.{test, never, untrue, in-mem, in-joined, getD-run, map-run}
-use Rattle.plan.proofs.Links.{Linked}
-use Rattle.plan.proofs.Passed.{linked}
+use Rattle.plan.proofs.Lists.{test, never, untrue, in-mem, in-joined, getD-first, map-first}
 use Rattle.plan.proofs.Chains.{chain-end, rule-step, literal-step, rule-reached, literal-reached}
-use Rattle.plan.proofs.Accepted.{accepted-passed}
 use Rattle.plan.proofs.Limits.{accepted-limits}
-use Rattle.plan.proofs.Reading.{first-rule-is, next-rule-is, first-literal-is, next-literal-is}
+use Rattle.plan.proofs.Reading.{first-rule-is, next-rule-is, first-literal-is, next-literal-is, links}
 use Rattle.route.specs.Values.{namedPlaces, codeIn, ruleEntry, literalEntry, entryBy, entryOf, clausesOf}
 use Rattle.route.specs.Inner.{stores}
 
@@ -85,25 +82,15 @@ below : (n : ℕ) → ((n ≡ 0 → ⊥) → n < 2048) → n < 2048
 below zero h = omega arith
 below (suc n) h = h (λ e. omega arith)
 
--- entries for any number of records
-entry-to : (f : ℕ → ℕ) (n i : ℕ) → i < n → getD (map f (run 0 n)) i 0 ≡ f i
-entry-to f n i h = let z : 0 + i ≡ i = omega arith in getD-run f 0 n i 0 h ∙ ap f z
-
-entries-to : (f : ℕ → ℕ) (n : ℕ) (l : List ℕ) → length l ≡ n → ((i : ℕ) → i < n → getD l i 0 ≡ f i) → l ≡ map f (run 0 n)
-entries-to f n l e h = map-run f 0 n 0 l e (λ i k. let z : i ≡ 0 + i = omega arith in h i k ∙ ap f z)
-
 entry-at : (b : List ℕ) (i : ℕ) → i < 2048 → getD (clausesOf b) i 0 ≡ entryOf b i
 unfolding clausesOf
-entry-at b = entry-to (entryOf b) 2048
+entry-at b i h = getD-first (entryOf b) 2048 i 0 h
 
 -- a number of two parts
 parts : (x y n : ℕ) → n ≡ x + 65536 * y → x < 2048 → (n % 65536 ≡ x) × (n / 65536 ≡ y)
 parts x y n e h = (omega arith, omega arith)
 
 module _ {b : List ℕ} (ok : Accepted b) where
-  links : Linked b
-  links = linked b (accepted-passed b (ok .unrefused) .0 .0)
-
   limits : Limits b
   limits = accepted-limits b (ok .unrefused)
 
@@ -237,7 +224,7 @@ module _ {b : List ℕ} (ok : Accepted b) where
   all-stored =
       let fresh : List ℕ = replicate 2048 0 in
       let size = length-replicate {A = ℕ} 2048 0 in
-      entries-to (entryOf b) 2048 (stores (entryOf b) fresh stored) (length-stores (entryOf b) fresh stored ∙ size) (λ i l.
+      map-first (entryOf b) 2048 0 (stores (entryOf b) fresh stored) (length-stores (entryOf b) fresh stored ∙ size) (λ i l.
       stores-at (entryOf b) fresh stored i (omega (arith, size))
       ∙ ap (either (mem i stored) (entryOf b i)) (getD-replicate 2048 i 0 0 l)
       ∙ go i (mem i stored) refl)

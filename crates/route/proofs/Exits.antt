@@ -14,7 +14,7 @@ use mathlib.Core.Path.{_≡_, refl, sym, _∙_, ap}
 use mathlib.Core.Logic.{_⊎_, inl, inr}
 use mathlib.Core.Bool.{Bool, true, false, _&&_, _||_, or-assoc, or-false}
 use Prim.Native.Nat.{ℕ, suc, _+_, _≤_, _<_}
-use mathlib.Core.List.{List, [], _∷_, map, List·Memᴰ, Memᴰ·cast}
+use mathlib.Core.List.{List, [], _∷_, List·Memᴰ, Memᴰ·cast}
 use native.Mathlib.Omega.{arith}
 use native.Mathlib.Nat.{eq-or-lt-of-le}
 use lib.Bits.{bitAnd, bitOr, and-le-l, and-le-r}
@@ -22,33 +22,26 @@ use lib.ListN.{length, getD, set, replicate, length-set, length-replicate, getD-
 use lib.Seq.{getD-set-same, getD-set-other}
 use lib.Dec.{eqb, ltb}
 use borrow.Author.Tests.{ne-eqb, ltb-true, ltb-false}
-use Rattle.plan.specs.Lists.{any, mem, run, upto}
+use Rattle.plan.specs.Lists.{any, mem, upto}
 use Rattle.plan.specs.Plan.{Belt, planOf, namesOf, leaving, named}
 use Rattle.plan.specs.Reading.{Accepted}
-use Rattle.plan.proofs.Lists.{test, both, and-is, never, untrue, alike, any-none, none-any, in-any, any-some, in-keep, keep-in, keep-none, in-map, map-in, getD-run, map-run, in-upto, upto-in, in-mem, mem-in}
+use Rattle.plan.proofs.Lists.{test, both, and-is, never, untrue, alike, any-none, none-any, in-any, any-some, in-keep, keep-in, keep-none, in-map, map-in, getD-first, map-first, in-upto, upto-in, in-mem, mem-in}
 use Rattle.plan.proofs.Naming.{named-rises}
 use Rattle.plan.proofs.Reading.{in-leaving, leaving-in, belt-of, belt-low, belt-ends}
 use Rattle.route.specs.declared.relax.Fixings.{Fixings}
-use Rattle.route.specs.Values.{OfNamed, fixedIn, subproblemIn, namedPlaces, gatheredIn, exitsOf}
+use Rattle.route.specs.Values.{OfNamed, fixedIn, subproblemIn, maskOf, exitsOf}
 use Rattle.route.specs.Inner.{isRequired, joinedIn}
 use Rattle.route.proofs.Fixed.{fixes, has-named, fixed-mem, nothing-has, masks-equal, joined-fixes, common-fixes, gathered-from}
 use Rattle.route.proofs.Onward.{AllOwed}
 
 abbrev pub exit-mask : List ℕ → ℕ → ℕ
-exit-mask b u = gatheredIn (namedPlaces b) 0 (namesOf (leaving (planOf b) u))
+exit-mask b u = maskOf b (namesOf (leaving (planOf b) u))
 
 -- ---- the array of masks
 
--- of any number of places
-exits-to : (b : List ℕ) (n u : ℕ) → u < n → getD (map (exit-mask b) (run 0 n)) u 0 ≡ exit-mask b u
-exits-to b n u h = let z : 0 + u ≡ u = omega arith in getD-run (exit-mask b) 0 n u 0 h ∙ ap (exit-mask b) z
-
-exits-made : (b : List ℕ) (n : ℕ) (l : List ℕ) → length l ≡ n → ((u : ℕ) → u < n → getD l u 0 ≡ exit-mask b u) → l ≡ map (exit-mask b) (run 0 n)
-exits-made b n l s h = map-run (exit-mask b) 0 n 0 l s (λ u k. let z : u ≡ 0 + u = omega arith in h u k ∙ ap (exit-mask b) z)
-
 exit-at : (b : List ℕ) (u : ℕ) → u < 257 → getD (exitsOf b) u 0 ≡ exit-mask b u
 unfolding exitsOf
-exit-at b u h = exits-to b 257 u h
+exit-at b u h = getD-first (exit-mask b) 257 u 0 h
 
 pub record Filled (b : List ℕ) (u : ℕ) (exits : List ℕ) : Type 0 where
   pub size : length exits ≡ 257
@@ -59,7 +52,7 @@ module _ {b : List ℕ} (ok : Accepted b) where
   -- no belt leaves what is no junction
   none-leave : (u : ℕ) → (1 ≤ u → u ≤ planOf b .junctions → ⊥) → exit-mask b u ≡ 0
   none-leave u out =
-      ap (λ (es : List Belt). gatheredIn (namedPlaces b) 0 (namesOf es))
+      ap (λ (es : List Belt). maskOf b (namesOf es))
       (keep-none (λ (e : Belt). eqb (e .leaves) u) (planOf b .belts) (λ e m.
       let (low, up, top) = belt-ends ok e m in
       ne-eqb (e .leaves) u (λ q. out (omega arith) (omega arith))))
@@ -92,7 +85,7 @@ module _ {b : List ℕ} (ok : Accepted b) where
 
   pub filled-end : {u : ℕ} {exits : List ℕ} → planOf b .junctions < u → Filled b u exits → exits ≡ exitsOf b
   unfolding exitsOf
-  filled-end {u} {exits} past f = exits-made b 257 exits (f .size) (λ j l. go j l (test (ltb j u)))
+  filled-end {u} {exits} past f = map-first (exit-mask b) 257 0 exits (f .size) (λ j l. go j l (test (ltb j u)))
     where
       go : (j : ℕ) → j < 257 → (ltb j u ≡ true) ⊎ (ltb j u ≡ false) → getD exits j 0 ≡ exit-mask b j
       go j l (inl k) = f .done j (ltb-true j u k)

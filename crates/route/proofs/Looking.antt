@@ -65,7 +65,7 @@ lowest-first e es h f m = h (f .name) (in-map (λ (g : Belt). g .name) m)
 
 -- ---- one belt more
 
-abbrev made : ℕ → BeltId → Bool → Way
+abbrev pub made : ℕ → BeltId → Bool → Way
 made k g w = record { cost = k; belt = g; required = w }
 
 -- of two ways by belts that are not required, the one that is kept

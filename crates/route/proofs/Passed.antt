@@ -2,9 +2,10 @@
 --
 --   Passed b x t u nearest costs firsts
 --                              from u on each junction has the cost and the first belt of its way on, and nearest is the nearest of them that a
---                              required belt leaves, or t. Past t there is nothing to do: no way leads on from there
+--                              required belt leaves, or t. What the array of costs has past t is not looked at
 --   passed-start               at first only t is done
 --   passed-moved, passed-kept  one junction further back, where a required belt leaves it and where none does
+--   passed-dead                where no way leads on from a junction that a required belt leaves, none leads on from an earlier one
 --
 -- Assumes nothing.
 use mathlib.Core.Path.{_≡_, refl, sym, _∙_, ap, subst}

@@ -6,7 +6,6 @@
 --   length-belts        there are as many belts on h as steps; few-belts: at most 255 where h is in the form
 --   length-steps, length-sheet
 --                       there are twelve bytes for each step, and a sheet has twelve more
---   reads-short         bytes that have a reading are 12 to 3,072 many
 --   round-trip          a sheet is in the form, and belts, cost and setting read back as written
 --   read-back           so the code reads back what it writes
 --   one-reading         bytes have at most one reading
@@ -157,11 +156,6 @@ length-steps n i (e ∷ es) = omega (arith, length-steps n (suc i) es)
 
 pub length-sheet : (es : List ℕ) (c σ : ℕ) → length (sheetOf es c σ) ≡ 12 * length es + 12
 length-sheet es c σ = omega (arith, length-steps (length es) 1 es)
-
-pub reads-short : (h es : List ℕ) (c σ : ℕ) → Reads h es c σ → (12 ≤ length h) × (length h ≤ 3072)
-reads-short h es c σ r =
-    let e : length h ≡ 12 * length es + 12 = ap length (r .written) ∙ length-sheet es c σ in
-    (omega arith, omega (arith, r .short))
 
 -- ---- the round trip
 

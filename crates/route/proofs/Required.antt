@@ -1,11 +1,11 @@
 -- Looking only at required belts, where one is required.
 --
---   Fixed x costs nearest whole way es
+--   Needed x costs nearest whole way es
 --                  the way, once the required ones of the belts es are looked at, is whole
---   fixed-start    so it is before the first, of no way, where one of them is required
---   fixed-taken    a required belt is looked at
---   fixed-passed   any other is passed over
---   fixed-end      where none is left the way is whole
+--   needed-start    so it is before the first, of no way, where one of them is required
+--   needed-taken    a required belt is looked at
+--   needed-passed   any other is passed over
+--   needed-end      where none is left the way is whole
 --
 -- A belt that is not required leaves no trace once a required one is looked at. Assumes nothing.
 use mathlib.Core.Path.{_≡_, refl, sym, _∙_, ap}
@@ -20,9 +20,7 @@ use Rattle.route.specs.declared.relax.Way.{Way}
 use Rattle.route.specs.Routes.{costLimit}
 use Rattle.route.specs.Subproblems.{Subproblem}
 use Rattle.route.specs.Inner.{isRequired, costBy, noWay, preferred, wayBy}
-
-abbrev made : ℕ → BeltId → Bool → Way
-made k g w = record { cost = k; belt = g; required = w }
+use Rattle.route.proofs.Looking.{made}
 
 module _ (x : Subproblem) (costs : List ℕ) (nearest : ℕ) where
   -- the way once all of es are looked at, and once the required ones are
@@ -65,26 +63,26 @@ module _ (x : Subproblem) (costs : List ℕ) (nearest : ℕ) where
           later true = rest (costBy x costs nearest e) (beltId (e .name)) others
           later false = rest j i others
 
-pub record Fixed (x : Subproblem) (costs : List ℕ) (nearest : ℕ) (whole way : Way) (es : List Belt) : Type 0 where
+pub record Needed (x : Subproblem) (costs : List ℕ) (nearest : ℕ) (whole way : Way) (es : List Belt) : Type 0 where
   same : wayBy x costs nearest way (keep (isRequired x) es) ≡ whole
 
 module _ {x : Subproblem} {costs : List ℕ} {nearest : ℕ} where
-  pub fixed-start : (es : List Belt) → any (isRequired x) es ≡ true → Fixed x costs nearest (wayBy x costs nearest noWay es) noWay es
-  fixed-start es some = record { same = in-front x costs nearest costLimit costLimit (beltId 0) (beltId 0) es some }
+  pub needed-start : (es : List Belt) → any (isRequired x) es ≡ true → Needed x costs nearest (wayBy x costs nearest noWay es) noWay es
+  needed-start es some = record { same = in-front x costs nearest costLimit costLimit (beltId 0) (beltId 0) es some }
 
-  pub fixed-end : {whole way : Way} → Fixed x costs nearest whole way [] → way ≡ whole
-  fixed-end f = f .same
+  pub needed-end : {whole way : Way} → Needed x costs nearest whole way [] → way ≡ whole
+  needed-end f = f .same
 
-  module _ {whole way : Way} {e : Belt} {es : List Belt} (f : Fixed x costs nearest whole way (e ∷ es)) where
+  module _ {whole way : Way} {e : Belt} {es : List Belt} (f : Needed x costs nearest whole way (e ∷ es)) where
     -- the way by the required ones of es
     abbrev on : Way → Way
     on w = wayBy x costs nearest w (keep (isRequired x) es)
 
-    pub fixed-taken : isRequired x e ≡ true → Fixed x costs nearest whole (preferred way (beltId (e .name)) (costBy x costs nearest e) true) es
-    fixed-taken w =
+    pub needed-taken : isRequired x e ≡ true → Needed x costs nearest whole (preferred way (beltId (e .name)) (costBy x costs nearest e) true) es
+    needed-taken w =
         let here = ap (λ (v : Bool). wayBy x costs nearest way (kept v e (keep (isRequired x) es))) w in
         let looked = ap (λ (v : Bool). on (preferred way (beltId (e .name)) (costBy x costs nearest e) v)) w in
         record { same = sym (here ∙ looked) ∙ f .same }
 
-    pub fixed-passed : isRequired x e ≡ false → Fixed x costs nearest whole way es
-    fixed-passed w = record { same = sym (ap (λ (v : Bool). wayBy x costs nearest way (kept v e (keep (isRequired x) es))) w) ∙ f .same }
+    pub needed-passed : isRequired x e ≡ false → Needed x costs nearest whole way es
+    needed-passed w = record { same = sym (ap (λ (v : Bool). wayBy x costs nearest way (kept v e (keep (isRequired x) es))) w) ∙ f .same }

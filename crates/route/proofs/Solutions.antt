@@ -33,7 +33,7 @@ use Rattle.route.specs.Claims.{ReadsSolved, CheckClaim, WrittenClaim, Wr
 use Rattle.route.specs.Values.{idsOf, routeIn, bytesOf, caseOf}
 use Rattle.route.proofs.Plans.{arcs-belts, cost-weight}
 use Rattle.route.proofs.Feasible.{joint-feasible, feasible-joint}
-use Rattle.route.proofs.ByName.{named-map, names-belts, named-in, known-belts, connects-route, route-connects, route-belts, route-few, route-cheap, ends-junctions, known-route}
+use Rattle.route.proofs.ByName.{named-map, names-belts, named-in, known-belts, connects-route, route-connects, route-belts, route-few, route-cheap, ends-junctions, known-names}
 use Rattle.route.proofs.Lowest.{all-modes, lowest-claim}
 use Rattle.route.proofs.Readings.{round-trip, reading-claim}
 use Rattle.route.proofs.Checked.{Unrefused, zero-unrefused, unrefused-zero, query-accepted, ends-query, inside}
@@ -231,6 +231,6 @@ writer-claim b good bytes trip ends v known route sum least =
     let k : Case = caseOf b trip (bytesOf v) in
     let (a, c, d, e) = ends-junctions (planOf b) (trip .s) (trip .t) ends in
     let r : List Belt = routeIn b (v .route) in
-    let names : namesOf r ≡ idsOf (v .route) = ap namesOf (known-route good (v .route) known) ∙ names-back b (idsOf (v .route)) in
+    let names : namesOf r ≡ idsOf (v .route) = known-names good (v .route) known in
     subst (λ (h : List ℕ). sheetRefusal (caseOf b trip h) ≡ 0) (λ i. sheetOf (names i) (sym sum i) (v .setting))
     (written-claim b good bytes (trip .s) (trip .t) a c d e r route (v .setting) least)

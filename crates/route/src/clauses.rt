@@ -50,7 +50,7 @@ fn put_literals(p: &[u8], places: &[u8; 2048], clauses: &mut [u32; 2048], rule: 
 }
 
 // Puts the clauses of an accepted plan into the array, which is all 0 before. `places` are those of its named belts (plan::named::named_places). Each
-// rule and each literal is read once.
+// literal is read once.
 pub fn decode(p: &[u8], places: &[u8; 2048], clauses: &mut [u32; 2048])
     requires { ⌜ Accepted (now p) × (now places ≡ namedPlaces (now p)) × (now clauses ≡ replicate 2048 0) ⌝ }
     ensures { λ v. ⌜ now (clauses .exit) ≡ clausesOf (now (p .entry)) ⌝ }

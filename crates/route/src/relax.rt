@@ -1,8 +1,8 @@
 // The relaxed route of a subproblem: the first route from s to t with every required and no forbidden belt, rules left aside.
 //
 // One pass backwards over the junctions from t to s finds for each the cheapest way on to t; one walk forward along the first belts of these
-// ways is the route. The pass reads each belt that leaves a junction from s on and before t once, and no other, where belts stand side by side
-// (plan::adjacency); the walk reads those of the route once more, in the plan.
+// ways is the route. The pass reads each belt that leaves a junction from s on and before t at most once, and no other, where belts stand side by
+// side (plan::adjacency); the walk reads those of the route once more, in the plan.
 //
 // A required belt that leaves u cuts: every other belt from a junction ≤ u to one > u drops out. Going backwards the cut needs no search. A
 // belt from u drops out if it leads past the nearest junction above u that a required belt leaves, or if a required belt leaves u and it
@@ -26,7 +26,7 @@ ghost use Rattle.plan.specs.Adjacency.{arcHead, arcName, arcsOf, endsOf};
 ghost use Rattle.plan.specs.Reading.{Accepted};
 ghost use Rattle.route.specs.Routes.{wrongEnds, costLimit};
 ghost use Rattle.route.specs.Subproblems.{relaxed};
-ghost use Rattle.route.specs.Values.{inMask, LowPlace, OfNamed, subproblemIn, namedPlaces, gatheredIn, exitsOf, noRelaxed, relaxedAs};
+ghost use Rattle.route.specs.Values.{inMask, LowPlace, OfNamed, subproblemIn, namedPlaces, maskOf, exitsOf, noRelaxed, relaxedAs};
 ghost use Rattle.route.specs.Inner.{Lent, isRequired, arcBelt, wayOver, preferred, noWay, wayBy, wayIn, wayCost, Guides, joinedIn};
 
 // A subproblem: masks over the named belts of the plan, bit k for the belt at place k among them.
@@ -139,7 +139,7 @@ fn is_open(places: &[u8; 2048], forbidden: u64, nearest: usize, arc: u64) -> boo
     !masks::has(forbidden, named::place_of(places, adjacency::name(arc)))
 }
 
-// The same where no required belt leaves it: a belt by which the way on gets no cheaper is not looked at further.
+// The cheapest way on from junction u where no required belt leaves it: a belt by which it gets no cheaper is not looked at further.
 fn cheapest(
     p: &[u8],
     places: &[u8; 2048],
@@ -326,7 +326,7 @@ pub fn relaxed_route(
 // The named belts that leave junction u, as a mask.
 fn exits_at(p: &[u8], places: &[u8; 2048], ends: &[u16; 257], arcs: &[u64; 2048], u: usize) -> u64
     requires { ⌜ Lent (now p) (now places) (now ends) (now arcs) × (1 ≤ u) × (u ≤ planOf (now p) .junctions) ⌝ }
-    ensures { λ v. ⌜ v ≡ gatheredIn (namedPlaces (now (p .entry))) 0 (namesOf (leaving (planOf (now (p .entry))) u)) ⌝ }
+    ensures { λ v. ⌜ v ≡ maskOf (now (p .entry)) (namesOf (leaving (planOf (now (p .entry))) u)) ⌝ }
 {
     let mut mask = 0u64;
     let end = ends[u] as usize;

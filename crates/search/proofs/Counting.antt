@@ -38,19 +38,17 @@ use Rattle.plan.specs.Lists.{counted, count, mem, run}
 use Rattle.plan.specs.Records.{records, chainOf}
 use Rattle.plan.specs.Plan.{planOf, literalAt, ruleAt, named, inRule, placeOf, placesOf, placeIn}
 use Rattle.plan.specs.Reading.{Accepted, IsRule, IsLiteral, firstRule, nextRule, firstLiteral, nextLiteral, rulesFrom, literalsFrom}
-use Rattle.plan.proofs.Lists.{test, alike, in-map, length-run, getD-run, map-run}
+use Rattle.plan.proofs.Lists.{test, alike, length-run, getD-run, map-run}
+use Rattle.plan.proofs.Counts.{count-few}
 use Rattle.plan.proofs.Rising.{Rises}
-use Rattle.plan.proofs.Links.{Linked}
-use Rattle.plan.proofs.Passed.{linked}
-use Rattle.plan.proofs.Chains.{rule-reached}
 use Rattle.plan.proofs.Naming.{named-rises}
 use Rattle.plan.proofs.Places.{at-place, place-at, place-in}
-use Rattle.plan.proofs.Accepted.{accepted-passed}
 use Rattle.plan.proofs.Limits.{accepted-limits}
-use Rattle.plan.proofs.Reading.{rules-from, rules-end, rules-next, first-rule-is, next-rule-is, belt-low, literal-belt, named-few}
+use Rattle.plan.proofs.Reading.{rules-from, rules-end, rules-next, first-rule-is, next-rule-is, belt-low, rule-in, literal-belt, named-few}
 use Rattle.plan.proofs.Reading.{literals-end, literals-next, first-literal-is, next-literal-is}
 use Rattle.route.specs.Values.{inMask, namedPlaces, withPlace, gatheredIn}
 use Rattle.route.proofs.Fixed.{gathered-from}
+use Rattle.route.proofs.Ahead.{rule-shorter, literal-shorter}
 use Rattle.search.specs.Branching.{ruleCount}
 use Rattle.search.specs.Values.{countsOf}
 use Rattle.search.specs.Inner.{beltsIn, withRule}
@@ -91,15 +89,9 @@ belt-literal {e} (OfBelt x w ∷ rule) m = go (List·Memᴰ·cases-cons m) (belt
 belt-literal (OfMode n w ∷ rule) m = let (y, v, j, q) = belt-literal rule m in (y, v, List·Memᴰ·tail j, q)
 
 module _ {b : List ℕ} (ok : Accepted b) where
-  -- every rule is one of the plan's
-  rule-in : (r : ℕ) → IsRule b r → List·Memᴰ (ruleAt b r) (planOf b .rules)
-  rule-in r o =
-      let links : Linked b = linked b (accepted-passed b (ok .unrefused) .0 .0) in
-      subst (List·Memᴰ (ruleAt b r)) (sym (rules-from ok)) (in-map (ruleAt b) (rule-reached links r o))
-
   -- what its literals name can be looked up
   named-low : (r : ℕ) → IsRule b r → (x : BeltId) (w : Bool) → List·Memᴰ (OfBelt x w) (ruleAt b r) → x .0 < 2048
-  named-low r o x w m = belt-low ok (x .0) (literal-belt ok (ruleAt b r) (rule-in r o) x w m) .2
+  named-low r o x w m = belt-low ok (x .0) (literal-belt ok (ruleAt b r) (rule-in ok r o) x w m) .2
 
   rule-low : (r : ℕ) → IsRule b r → (e : ℕ) → List·Memᴰ e (beltsIn (ruleAt b r)) → e < 2048
   rule-low r o e m = let (x, w, i, q) = belt-literal (ruleAt b r) m in subst (λ (n : ℕ). n < 2048) (sym q) (named-low r o x w i)
@@ -149,10 +141,7 @@ module _ {b : List ℕ} (ok : Accepted b) {places : List ℕ} where
     gathering-mode x w e n s = next (OfMode x w) e n s m refl
 
     pub gathering-shorter : (n : ℕ) → n ≡ nextLiteral b l → length (literalsFrom b n) < length (literalsFrom b l)
-    gathering-shorter n e =
-        let s = ap length here in
-        let k = ap (λ (i : ℕ). length (literalsFrom b i)) e in
-        omega arith
+    gathering-shorter n e = literal-shorter ok l (h .is-literal d) n e
 
 -- ---- one rule more
 
@@ -241,15 +230,6 @@ module _ (m : ℕ) (xs : List ℕ) where
   with-now k l = seen-at (on m) xs 48 k k l ∙ seen-old (on m) xs k k (omega arith)
 
 -- ---- all rules
-
--- no more pass than there are
-count-few : {A : Type 0} (f : A → Bool) (xs : List A) → count f xs ≤ length xs
-count-few f [] = omega arith
-count-few {A} f (x ∷ xs) = go (f x) (count-few f xs)
-  where
-    go : (t : Bool) → count f xs ≤ length xs → counted t (count f xs) ≤ suc (length xs)
-    go true h = omega arith
-    go false h = omega arith
 
 chain-few : (next : ℕ → ℕ) (n i : ℕ) → length (chainOf next n i) ≤ n
 chain-few next zero i = omega arith
@@ -351,10 +331,7 @@ module _ {b : List ℕ} (ok : Accepted b) where
 
   module _ {r : ℕ} {xs : List ℕ} (h : Tallied b r xs) (d : r ≡ 0 → ⊥) where
     pub tallied-shorter : (n : ℕ) → n ≡ nextRule b r → length (rulesFrom b n) < length (rulesFrom b r)
-    tallied-shorter n e =
-        let s = ap length (rules-next ok r (h .is-rule d)) in
-        let k = ap (λ (i : ℕ). length (rulesFrom b i)) e in
-        omega arith
+    tallied-shorter n e = rule-shorter ok r (h .is-rule d) n e
 
     pub tallied-next : {places : List ℕ} → places ≡ namedPlaces b → (m : ℕ) → m ≡ gatheredIn places 0 (beltsIn (ruleAt b r))
         → (ys : List ℕ) → ys ≡ withRule xs (length ns) m → (n : ℕ) → n ≡ nextRule b r → Tallied b n ys

@@ -30,19 +30,19 @@ use lib.Dec.{ltb}
 use borrow.Author.Tests.{lt-ltb, le-ltb}
 use Rattle.plan.specs.declared.named.Place.the-variants.{At, Unnamed}
 use Rattle.plan.specs.Lists.{keep, mem, run, upto}
-use Rattle.plan.specs.Plan.{Belt, Plan, planOf, namesOf, named}
+use Rattle.plan.specs.Plan.{Belt, Plan, planOf, named}
 use Rattle.plan.specs.Reading.{Accepted}
 use Rattle.plan.proofs.Lists.{both, keep-in, map-run, upto-in, keep-cong, keep-map}
 use Rattle.plan.proofs.Counts.{keep-first, keep-rest, keep-done}
 use Rattle.plan.proofs.Rising.{Rises}
-use Rattle.plan.proofs.Naming.{names-back, named-rises}
-use Rattle.plan.proofs.Reading.{belt-low}
+use Rattle.plan.proofs.Naming.{named-rises}
 use Rattle.route.specs.declared.path.Route.{Route}
 use Rattle.route.specs.declared.relax.Fixings.{Fixings}
 use Rattle.route.specs.Permission.{passes, find, orElse, otherwise}
 use Rattle.route.specs.Values.{idsOf, Known, routeIn, inMask, fixedIn, subproblemIn, maskOf}
 use Rattle.route.proofs.Bits.{or-set, without-set, lowest-none, lowest-set}
-use Rattle.route.proofs.ByName.{passes-names, known-route}
+use Rattle.route.proofs.ByName.{passes-names, known-names}
+use Rattle.route.proofs.Holding.{known-low}
 use Rattle.route.proofs.Fixed.{fixed-mem}
 use Rattle.search.specs.Branching.{isFixed, unfixed, ruleCount, higher, highest, pickOf}
 use Rattle.search.specs.Values.{countsOf, pickedPlace}
@@ -255,13 +255,9 @@ module _ (b : List ℕ) (f : Fixings) where
 -- ---- a known route
 
 module _ {b : List ℕ} (ok : Accepted b) {r : Route} (known : Known b r) where
-  belts-low : (e : ℕ) → List·Memᴰ e (idsOf r) → e < 2048
-  belts-low e m = belt-low ok e (known .belts e m) .2
-
   pub route-mask : (k : ℕ) → k < length (named (planOf b)) → passes (routeIn b r) (getD (named (planOf b)) k 0) ≡ inMask (maskOf b (idsOf r)) (At k)
   route-mask k l =
       let e = getD (named (planOf b)) k 0 in
       passes-names (routeIn b r) e
-      ∙ ap (λ (es : List Belt). mem e (namesOf es)) (known-route ok r known)
-      ∙ ap (mem e) (names-back b (idsOf r))
-      ∙ sym (gathered-at (named-rises b) k l refl (idsOf r) belts-low)
+      ∙ ap (mem e) (known-names ok r known)
+      ∙ sym (gathered-at (named-rises b) k l refl (idsOf r) (known-low ok r known))

@@ -19,12 +19,12 @@ use Rattle.plan.specs.Lists.{mem}
 use Rattle.plan.specs.Plan.{Belt, planOf, namesOf, named}
 use Rattle.plan.specs.Reading.{Accepted}
 use Rattle.plan.proofs.Lists.{test}
-use Rattle.plan.proofs.Naming.{named-rises, names-back}
+use Rattle.plan.proofs.Naming.{named-rises}
 use Rattle.route.specs.declared.path.Route.{Route}
 use Rattle.route.specs.declared.relax.Fixings.{Fixings}
 use Rattle.route.specs.Subproblems.{Subproblem}
 use Rattle.route.specs.Values.{idsOf, packed, Known, routeIn, fixedIn, OfNamed, subproblemIn}
-use Rattle.route.proofs.ByName.{known-route}
+use Rattle.route.proofs.ByName.{known-names}
 use Rattle.route.proofs.Fixed.{fixed-mem, masks-equal}
 use Rattle.search.specs.declared.state.Search.{Search}
 use Rattle.search.specs.Search.{State, free}
@@ -92,7 +92,7 @@ beltsOr (some r) = r
 
 -- a Route of the plan has the names of its belts
 ids-of : {b : List ℕ} → Accepted b → (r : Route) → Known b r → idsOf r ≡ namesOf (routeIn b r)
-ids-of {b} ok r k = sym (ap namesOf (known-route ok r k) ∙ names-back b (idsOf r))
+ids-of ok r k = sym (known-names ok r k)
 
 same-best : {b : List ℕ} → Accepted b → (v w : Search) → Valid b v → Valid b w → v .found ≡ w .found → (t : Bool) → v .found ≡ t
     → bestIn b (v .found) (v .best) ≡ bestIn b (w .found) (w .best) → v .best ≡ w .best

@@ -2,10 +2,11 @@
 --
 --   countsOf b          how many named belts the plan b has, and in how many rules each of them is, the rest of the array 0
 --   pickedPlace ns o    the place of the belt picked, among the named belts ns; no place where none is
+--   noFixings           the masks of the subproblem that fixes nothing
 --   firstSearch         a Search at its beginning
 --   waitingIn b xs n    the subproblems of the plan b that the first n masks of the array xs stand for, the last of them first: the newest
 --                       stands last in the array
---   stateIn b v         the state that a Search stands for
+--   bestIn b t r        the best route of the plan b that a Search holds, if t says that it holds one; stateIn b v: the state that it stands for
 --   turnIn b v          what a step handed back stands for
 --   Deep p xs           of the waiting subproblems each fixes at least as many named belts as there are older ones
 --   Valid b v           a Search of the plan b: its masks are over the named belts, each waiting subproblem fixes enough of them, the best

@@ -4,7 +4,6 @@ use plan::named::Place;
 use plan::read::BeltId;
 use plan::read::Literal;
 use plan::read::LiteralId;
-use plan::read::RuleId;
 ghost use mathlib.Core.Path.{_≡_};
 ghost use Prim.Native.Nat.{_≤_};
 ghost use Rattle.plan.specs.Plan.{planOf};

@@ -1,8 +1,8 @@
 -- `planner_search` meets its contract: the answer and the buffer are those of the search, and its number says whether the count and the length are
 -- written. Assumes nothing.
 use mathlib.Core.Path.{_≡_, sym, _∙_, ap, subst}
-use mathlib.Core.Logic.{_⊎_, inl, inr}
-use Prim.Native.Nat.{ℕ, _≤_}
+use mathlib.Core.Logic.{inl, inr}
+use Prim.Native.Nat.{ℕ}
 use borrow.Author.Needs.{needs}
 use borrow.Author.Tests.{leb-true, leb-false}
 use Rattle.search.specs.declared.entry.Reply.{Reply}

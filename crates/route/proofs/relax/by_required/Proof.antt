@@ -18,7 +18,7 @@ use Rattle.route.specs.declared.relax.Way.{Way}
 use Rattle.route.specs.Values.{inMask, fixedIn, subproblemIn, LowPlace}
 use Rattle.route.specs.Inner.{wayOver, preferred, noWay, wayBy}
 use Rattle.route.proofs.Fixed.{fixed-mem}
-use Rattle.route.proofs.Required.{Fixed, fixed-start, fixed-taken, fixed-passed, fixed-end}
+use Rattle.route.proofs.Required.{Needed, needed-start, needed-taken, needed-passed, needed-end}
 use Rattle.route.proofs.Spans.{Left, Next, end-low, left-start, left-next, left-end, arc-low, arc-place}
 use Rattle.route.proofs.relax.by_required.Statement.{statement}
 use Rattle.route.proofs.relax.by_required.Tie as tie
@@ -26,7 +26,7 @@ use Rattle.route.proofs.relax.by_required.Tie as tie
 -- with the required ones of the belts es the way is that of all
 abbrev Gives : List ℕ → Fixings → List ℕ → ℕ → ℕ → Way → List Belt → Type 0
 Gives p f costs nearest u way es =
-    Fixed (subproblemIn p f) costs nearest (wayBy (subproblemIn p f) costs nearest noWay (leaving (planOf p) u)) way es
+    Needed (subproblemIn p f) costs nearest (wayBy (subproblemIn p f) costs nearest noWay (leaving (planOf p) u)) way es
 
 abbrev Inv-loop : tie.InvT-loop
 Inv-loop p places ends arcs fixings costs nearest u way₀ end i₀ way i = Left p arcs i end (Gives p fixings costs nearest u way)
@@ -69,7 +69,7 @@ loop-holds : tie.Need-loop-holds Inv-loop μ-loop
 loop-holds c =
     let start = c .before .before .before in
     let h = start .pre in
-    left-start (h .0 .accepted) (h .0) (start .args .u) (h .2) (h .3) (fixed-start (leaving (planOf (start .args .p .now)) (start .args .u)) (h .4))
+    left-start (h .0 .accepted) (h .0) (start .args .u) (h .2) (h .3) (needed-start (leaving (planOf (start .args .p .now)) (start .args .u)) (h .4))
 
 -- a turn of the loop: where it was asked for, and the belt that is next
 abbrev start : tie.In-loop Inv-loop μ-loop → tie.Start Inv-loop μ-loop
@@ -151,8 +151,8 @@ passed c =
     let arc = n .arc in
     let over = w .2 .ensures ∙ (λ i. wayOver (a .costs .now) (a .nearest) (out i) (record { name = e .name; leaves = e .leaves; leads = arc .leads i; cost = arc .costs i })) in
     let name : found .before .before .name .result .0 ≡ e .name = found .before .before .name .ensures ∙ arc .names in
-    subst give (sym (w .4 ∙ w .3 .ensures ∙ (λ i. preferred (turn .before .loop .way) (beltId (name i)) (over i) true))) (fixed-taken (n .passes) (needed ∙ w .0 .taken)))
-    (λ w. subst give (sym (w .1)) (fixed-passed (n .passes) (needed ∙ w .0 .left)))
+    subst give (sym (w .4 ∙ w .3 .ensures ∙ (λ i. preferred (turn .before .loop .way) (beltId (name i)) (over i) true))) (needed-taken (n .passes) (needed ∙ w .0 .taken)))
+    (λ w. subst give (sym (w .1)) (needed-passed (n .passes) (needed ∙ w .0 .left)))
     (c .if1 .came)
 
 loop-again : tie.Need-loop-again Inv-loop μ-loop
@@ -161,7 +161,7 @@ loop-again c =
     record { es = n .others; span = n .span; passes = passed c }
 
 returns : tie.Need-returns Inv-loop μ-loop
-returns c = fixed-end (left-end (c .before .loop .inv) (c .loop-test .left))
+returns c = needed-end (left-end (c .before .loop .inv) (c .loop-test .left))
 
 pub by-required-spec : {M : Type 1} → statement M
 by-required-spec =

@@ -1,4 +1,4 @@
--- `route::relax::way_from` meets its contract: where no required belt leaves the junction the shorter way to look may be taken. Assumes nothing.
+-- `route::relax::way_from` meets its contract: the mask of the junction tells whether a required belt leaves it. Assumes nothing.
 use mathlib.Core.Path.{sym, _∙_, ap}
 use Prim.Native.Nat.{ℕ, _<_}
 use mathlib.Core.List.{List}
