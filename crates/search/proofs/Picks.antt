@@ -12,6 +12,7 @@
 --   picks-lowest, picks-busiest, picks-on
 --                     what each pick gives by places is the place of what it gives by belts
 --   route-mask        a known route passes the belts whose places its mask has
+--   mask-route        every mask of named belts is that of some belts, so what is said of all these leaves no answer free
 --
 -- The unfixed belts are those at the unfixed places, in the same order. So whatever is chosen among the ones by their order and their counts
 -- is chosen among the others at the same position: Matched says of two choices that they are none and none, or a belt and its place.
@@ -30,23 +31,24 @@ use lib.Dec.{ltb}
 use borrow.Author.Tests.{lt-ltb, le-ltb}
 use Rattle.plan.specs.declared.named.Place.the-variants.{At, Unnamed}
 use Rattle.plan.specs.Lists.{keep, mem, run, upto}
-use Rattle.plan.specs.Plan.{Belt, Plan, planOf, named}
-use Rattle.plan.specs.Reading.{Accepted}
+use Rattle.plan.specs.Plan.{Belt, Plan, planOf, named, placeOf}
+use Rattle.plan.specs.Reading.{Accepted, IsBelt}
 use Rattle.plan.proofs.Lists.{both, keep-in, map-run, upto-in, keep-cong, keep-map}
-use Rattle.plan.proofs.Counts.{keep-first, keep-rest, keep-done}
+use Rattle.plan.proofs.Counts.{keep-first, keep-rest, keep-done, length-keep, count-few}
 use Rattle.plan.proofs.Rising.{Rises}
-use Rattle.plan.proofs.Naming.{named-rises}
+use Rattle.plan.proofs.Naming.{named-rises, named-in}
+use Rattle.plan.proofs.Reading.{belt-low, named-few}
 use Rattle.route.specs.declared.path.Route.{Route}
 use Rattle.route.specs.declared.relax.Fixings.{Fixings}
 use Rattle.route.specs.Permission.{passes, find, orElse, otherwise}
-use Rattle.route.specs.Values.{idsOf, Known, routeIn, inMask, fixedIn, subproblemIn, maskOf}
+use Rattle.route.specs.Values.{idsOf, Known, routeIn, inMask, fixedIn, subproblemIn, maskOf, packed, OfNamed}
 use Rattle.route.proofs.Bits.{or-set, without-set, lowest-none, lowest-set}
-use Rattle.route.proofs.ByName.{passes-names, known-names}
+use Rattle.route.proofs.ByName.{passes-names, known-names, ids-packed}
 use Rattle.route.proofs.Holding.{known-low}
-use Rattle.route.proofs.Fixed.{fixed-mem}
+use Rattle.route.proofs.Fixed.{fixed-mem, masks-equal, gathered-from, gathered-low}
 use Rattle.search.specs.Branching.{isFixed, unfixed, ruleCount, higher, highest, pickOf}
 use Rattle.search.specs.Values.{countsOf, pickedPlace}
-use Rattle.search.specs.Inner.{unfixedAt, unfixedPlaces, atPlace, countAt}
+use Rattle.search.specs.Inner.{unfixedAt, unfixedPlaces, atPlace, countAt, OnRoute}
 use Rattle.search.proofs.Counting.{stands, gathered-at, counts-at}
 
 -- ---- the first place that is kept and passes
@@ -261,3 +263,36 @@ module _ {b : List ℕ} (ok : Accepted b) {r : Route} (known : Known b r) where
       passes-names (routeIn b r) e
       ∙ ap (mem e) (known-names ok r known)
       ∙ sym (gathered-at (named-rises b) k l refl (idsOf r) (known-low ok r known))
+
+-- ---- a mask as belts
+
+pub mask-route : {b : List ℕ} → Accepted b → (m : ℕ) → OfNamed b m → (r : Route) × OnRoute b m r
+mask-route {b} ok m few = (packed es, record { known = record { few = short; belts = belts }; mask = same ∙ sym (ap (maskOf b) ids) })
+  where
+    ns : List ℕ
+    ns = named (planOf b)
+
+    es : List ℕ
+    es = fixedIn ns m
+
+    short : length es ≤ 255
+    short =
+        let has : ℕ → Bool = λ e. inMask m (placeOf ns e) in
+        omega (arith, length-keep has ns, count-few has ns, named-few ok)
+
+    ids : idsOf (packed es) ≡ es
+    ids = ids-packed es short
+
+    one-of : (e : ℕ) → List·Memᴰ e es → List·Memᴰ e ns
+    one-of e i = keep-in (λ (n : ℕ). inMask m (placeOf ns n)) ns i .0
+
+    belts : (e : ℕ) → List·Memᴰ e (idsOf (packed es)) → IsBelt b e
+    belts e i = named-in b e (one-of e (subst (List·Memᴰ e) ids i))
+
+    low : (e : ℕ) → List·Memᴰ e es → e < 2048
+    low e i = belt-low ok e (named-in b e (one-of e i)) .2
+
+    same : m ≡ maskOf b es
+    same =
+        masks-equal (named-rises b) m (maskOf b es) few (gathered-low (named-rises b) refl es low) (λ e i.
+        sym (gathered-from (named-rises b) refl es low e i ∙ fixed-mem ns m e))

@@ -15,7 +15,7 @@ ghost use Rattle.plan.specs.Reading.{Accepted, IsRule};
 ghost use Rattle.plan.specs.declared.named.Place.the-variants.{At};
 ghost use Rattle.route.specs.declared.path.Route.{Route};
 ghost use Rattle.route.specs.Permission.{find, otherwise};
-ghost use Rattle.route.specs.Values.{routeIn, inMask, subproblemIn, namedPlaces, gatheredIn};
+ghost use Rattle.route.specs.Values.{routeIn, inMask, OfNamed, subproblemIn, namedPlaces, gatheredIn};
 ghost use Rattle.search.specs.Branching.{highest, pickOf};
 ghost use Rattle.search.specs.Values.{countsOf, pickedPlace};
 ghost use Rattle.search.specs.Inner.{OnRoute, beltsIn, withRule, unfixedPlaces, atPlace, countAt};
@@ -146,9 +146,9 @@ fn lowest_on(fixings: Fixings, count: usize, mask: u64) -> Place
 }
 
 // The place of the belt picked, of a subproblem and its relaxed route; Place::Unnamed where no named belt is unfixed. Of the route only its named
-// belts matter, which are handed over as a mask.
+// belts matter, which are handed over as a mask; every mask of named belts is that of some belts.
 pub fn picked(p: &[u8], counts: Counts, pick: u64, fixings: Fixings, mask: u64) -> Place
-    requires { ⌜ Accepted (now p) × (counts ≡ countsOf (now p)) ⌝ }
+    requires { ⌜ Accepted (now p) × (counts ≡ countsOf (now p)) × OfNamed (now p) mask ⌝ }
     ensures { λ v. ⌜ ((route : Route) → OnRoute (now (p .entry)) mask route → v ≡ pickedPlace (named (planOf (now (p .entry)))) (pickOf pick (planOf (now (p .entry))) (subproblemIn (now (p .entry)) fixings) (routeIn (now (p .entry)) route))) ⌝ }
 {
     if pick == 0 {

@@ -63,8 +63,9 @@ enum-told c = search needs
 
 picked-requires : tie.Need-picked-requires
 picked-requires c κs =
-    let pre = c .before .before .before .before .before .pre in
-    (pre .0, pre .2)
+    let some = c .before .before .before in
+    let pre = some .before .before .pre in
+    (pre .0, pre .2, pre .3 (better some))
 
 enum-known-place : tie.Need-enum-known-place
 enum-known-place c = search needs
