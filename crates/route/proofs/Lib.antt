@@ -9,11 +9,13 @@ pub mod Enumeration
 pub mod Firsts
 pub mod Cut
 pub mod Enforced
+pub mod Bounded
 pub mod Onward
 pub mod Looking
 pub mod Cheapest
 pub mod Required
 pub mod Ways
+pub mod Kept
 pub mod Passed
 pub mod Fixed
 pub mod Spans

@@ -9,7 +9,7 @@
 --   way-end            the way on from t is empty; relaxed-past: past t there is no route
 --   way-route          a way on is a route; way-length: it has at most t - u belts
 --   way-next           what follows the first belt of a way on is the way on from where it leads
---   way-through        where no way on leads from the junction that a required belt leaves, none leads from an earlier one
+--   way-above          where the way on from the junction that a required belt leaves costs more than k, so does that from an earlier one
 --   AllOwed b x t s    every required belt is owed from s on
 --   way-relaxed        then the way on from s is the relaxed route
 --   unowed-relaxed     and else there is none
@@ -32,11 +32,13 @@ use Rattle.plan.specs.Plan.{Belt, planOf, namesOf}
 use Rattle.plan.specs.Reading.{Accepted}
 use Rattle.plan.proofs.Lists.{test, both, and-is, neither, or-is, never, untrue, each, in-keep, keep-in, in-map, map-in, in-mem, mem-in}
 use Rattle.plan.proofs.Reading.{belt-ends}
-use Rattle.route.specs.Routes.{IsRoute, before}
+use Rattle.route.specs.Routes.{IsRoute, cost, before}
 use Rattle.route.specs.Permission.{passes}
 use Rattle.route.specs.Subproblems.{Subproblem, admits, relaxed}
-use Rattle.route.specs.Inner.{isRequired, isForbidden, isOwed, remaining, wayOn}
+use Rattle.route.specs.Values.{atMost}
+use Rattle.route.specs.Inner.{isRequired, isForbidden, isOwed, remaining, wayOn, wayCost}
 use Rattle.route.proofs.ByName.{route-length}
+use Rattle.route.proofs.Bounded.{at-most-none}
 use Rattle.route.proofs.Order.{before-cons, ends-claim}
 use Rattle.route.proofs.Firsts.{admits-is, is-admits, relaxed-some, relaxed-none, is-relaxed, no-relaxed}
 use Rattle.route.proofs.Cut.{in-passes, on-route, route-between, cut-claim}
@@ -201,31 +203,39 @@ module _ {b : List ℕ} (ok : Accepted b) (x : Subproblem) (t : ℕ) where
       λ q l c. let w : IsRoute (planOf b) u t (e ∷ q) = (k .0, k .1, l) in sym (before-cons e q r) ∙ least (e ∷ q) w (remaining-step u e q w .1 (g, c)) in
       (k .0, k .1, is-relaxed ok (e .leads) t (remaining (planOf b) x t (e .leads)) r (k .2) rest first)
 
-  -- each way on from v, at or before where g leaves, comes to the junction that g leaves
-  come-by : (g : Belt) → Owed b x t (g .leaves) g → wayOn (planOf b) x t (g .leaves) ≡ none → (r : List Belt) (v : ℕ) → v ≤ g .leaves
-      → wayOn (planOf b) x t v ≡ some r → ⊥
-  come-by g owed lost [] v l h = let end : v ≡ t = way-route v [] h in omega (arith, owed .before-t)
-  come-by g owed lost (e ∷ r) v l h = go (come-by g owed lost r (e .leads)) (eq-or-lt-of-le l) (test (ltb (g .leaves) (e .leads)))
+  -- each way on from v, at or before where g leaves, comes by the junction that g leaves, and goes on as the way on from there
+  abbrev Comes : Belt → List Belt → Type 0
+  Comes g r = (q : List Belt) × (wayOn (planOf b) x t (g .leaves) ≡ some q) × (cost q ≤ cost r)
+
+  come-by : (g : Belt) → Owed b x t (g .leaves) g → (r : List Belt) (v : ℕ) → v ≤ g .leaves → wayOn (planOf b) x t v ≡ some r → Comes g r
+  come-by g owed [] v l h = let end : v ≡ t = way-route v [] h in absurd (omega (arith, owed .before-t))
+  come-by g owed (e ∷ r) v l h = go (come-by g owed r (e .leads)) (eq-or-lt-of-le l) (test (ltb (g .leaves) (e .leads)))
     where
       goes : Goes b x v e
       goes = let (k, a, least) = relaxed-some ok v t (remaining (planOf b) x t v) (e ∷ r) h in remaining-step v e r k .0 a .0
 
-      go : (e .leads ≤ g .leaves → wayOn (planOf b) x t (e .leads) ≡ some r → ⊥) → (v ≡ g .leaves) ⊎ (v < g .leaves)
-          → (ltb (g .leaves) (e .leads) ≡ true) ⊎ (ltb (g .leaves) (e .leads) ≡ false) → ⊥
-      go rest (inl q) k = Option·none-ne-some _ (sym lost ∙ ap (wayOn (planOf b) x t) (sym q) ∙ h)
+      go : (e .leads ≤ g .leaves → wayOn (planOf b) x t (e .leads) ≡ some r → Comes g r) → (v ≡ g .leaves) ⊎ (v < g .leaves)
+          → (ltb (g .leaves) (e .leads) ≡ true) ⊎ (ltb (g .leaves) (e .leads) ≡ false) → Comes g (e ∷ r)
+      go rest (inl q) k = (e ∷ r, ap (wayOn (planOf b) x t) (sym q) ∙ h, omega arith)
       go rest (inr m) (inl k) =
           let same = goes .only g (owed-between owed v (e .leads) l (ltb-true (g .leaves) (e .leads) k)) in
           let leaves : e .leaves ≡ v = way-next v e r h .1 in
-          omega (arith, ap (λ (f : Belt). f .leaves) same)
-      go rest (inr m) (inr k) = rest (ltb-false (g .leaves) (e .leads) k) (way-next v e r h .2)
+          absurd (omega (arith, ap (λ (f : Belt). f .leaves) same))
+      go rest (inr m) (inr k) =
+          let (q, is, c) = rest (ltb-false (g .leaves) (e .leads) k) (way-next v e r h .2) in
+          let more : cost (e ∷ r) ≡ e .cost + cost r = refl in
+          (q, is, omega arith)
 
-  pub way-through : (g : Belt) → Owed b x t (g .leaves) g → wayOn (planOf b) x t (g .leaves) ≡ none → (v : ℕ) → v ≤ g .leaves
-      → wayOn (planOf b) x t v ≡ none
-  way-through g owed lost v l = go (wayOn (planOf b) x t v) refl
+  pub way-above : (g : Belt) → Owed b x t (g .leaves) g → (k : ℕ) → k < wayCost (wayOn (planOf b) x t (g .leaves)) → (v : ℕ) → v ≤ g .leaves
+      → atMost k (wayOn (planOf b) x t v) ≡ none
+  way-above g owed k c v l = go (wayOn (planOf b) x t v) refl
     where
-      go : (o : Option (List Belt)) → wayOn (planOf b) x t v ≡ o → o ≡ none
+      go : (o : Option (List Belt)) → wayOn (planOf b) x t v ≡ o → atMost k o ≡ none
       go none e = refl
-      go (some r) e = absurd (come-by g owed lost r v l e)
+      go (some r) e =
+          let (q, is, low) = come-by g owed r v l e in
+          let dear : wayCost (wayOn (planOf b) x t (g .leaves)) ≡ cost q = ap wayCost is in
+          at-most-none k (some r) (omega arith)
 
   pub way-relaxed : (s : ℕ) → AllOwed b x t s → wayOn (planOf b) x t s ≡ relaxed (planOf b) s t x
   way-relaxed s owed = go (wayOn (planOf b) x t s) refl

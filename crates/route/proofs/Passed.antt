@@ -4,33 +4,34 @@
 --                              from u on each junction has the cost and the first belt of its way on, and nearest is the nearest of them that a
 --                              required belt leaves, or t. What the array of costs has past t is not looked at
 --   passed-start               at first only t is done
+--   passed-low                 the belt and the cost of a way are low numbers
 --   passed-moved, passed-kept  one junction further back, where a required belt leaves it and where none does
---   passed-dead                where no way leads on from a junction that a required belt leaves, none leads on from an earlier one
+--   passed-above               where the way on from a junction that a required belt leaves costs too much, so does that from an earlier one
 --
 -- Assumes nothing.
 use mathlib.Core.Path.{_≡_, refl, sym, _∙_, ap, subst}
 use mathlib.Core.Logic.{_⊎_, inl, inr}
-use mathlib.Core.Bool.{true, false}
-use mathlib.Core.Option.{none, Option·none-ne-some}
+use mathlib.Core.Bool.{Bool, true, false}
+use mathlib.Core.Option.{none}
 use Prim.Native.Nat.{ℕ, zero, suc, _≤_, _<_}
-use mathlib.Core.List.{List, [], _∷_}
+use mathlib.Core.List.{List, [], _∷_, List·Memᴰ, List·Memᴰ·head, List·Memᴰ·tail}
 use native.Mathlib.Omega.{arith}
 use native.Mathlib.Nat.{eq-or-lt-of-le}
 use lib.ListN.{length, getD, set, replicate, length-set, length-replicate, getD-replicate}
 use lib.Seq.{getD-set-same, getD-set-other}
-use lib.Dec.{leb}
-use borrow.Author.Tests.{leb-true, leb-false}
+use lib.Dec.{ltb}
 use Rattle.plan.specs.declared.read.BeltId.{BeltId}
-use Rattle.plan.specs.Plan.{planOf, leaving, beltId}
+use Rattle.plan.specs.Plan.{Belt, planOf, leaving, beltId}
 use Rattle.plan.specs.Reading.{Accepted, Bytes}
-use Rattle.plan.proofs.Lists.{test, any-some}
-use Rattle.plan.proofs.Reading.{plan-sizes, leaving-in}
+use Rattle.plan.proofs.Lists.{any-some}
+use Rattle.plan.proofs.Reading.{plan-sizes, leaving-in, belt-of, belt-low}
 use Rattle.route.specs.declared.relax.Way.{Way}
 use Rattle.route.specs.Routes.{costLimit}
 use Rattle.route.specs.Subproblems.{Subproblem}
-use Rattle.route.specs.Inner.{isRequired, wayOn, wayCost, noWay, wayBy, Begins}
-use Rattle.route.proofs.Onward.{Owed, way-end, way-length, way-through}
-use Rattle.route.proofs.Ways.{Costs, Found, Nearest, nearest-start, nearest-moved, nearest-kept, cost-low, way-lost, way-is}
+use Rattle.route.specs.Values.{atMost}
+use Rattle.route.specs.Inner.{isRequired, wayOn, wayCost, costBy, preferred, noWay, wayBy, Begins}
+use Rattle.route.proofs.Onward.{Owed, way-end, way-length, way-above}
+use Rattle.route.proofs.Ways.{Costs, Found, Nearest, nearest-start, nearest-moved, nearest-kept, cost-low, way-is}
 
 pub record Passed (b : List ℕ) (x : Subproblem) (t u nearest : ℕ) (costs : List ℕ) (firsts : List BeltId) : Type 0 where
   pub inside : u ≤ t
@@ -65,6 +66,27 @@ set-low m (y ∷ l) (suc i) a h all (suc j) = set-low m l i a h (λ k. all (suc 
 
 -- ---- the pass
 
+-- what is preferred begins with the belt that is looked at, or as before
+preferred-low : (n : ℕ) (way : Way) (e : BeltId) (c : ℕ) (r : Bool) → way .belt .0 < n → e .0 < n → preferred way e c r .belt .0 < n
+preferred-low n way e c true h k = go (way .required)
+  where
+    go : (q : Bool) → let w : Way = elim q [ true ↦ record { cost = costLimit; belt = e; required = true } | false ↦ record { cost = c; belt = e; required = true } ] in w .belt .0 < n
+    go true = k
+    go false = k
+preferred-low n way e c false h k = go (way .required) (ltb c (way .cost))
+  where
+    go : (q l : Bool) → let w : Way = elim q [ true ↦ way | false ↦ elim l [ true ↦ record { cost = c; belt = e; required = false } | false ↦ way ] ] in w .belt .0 < n
+    go true l = h
+    go false true = k
+    go false false = h
+
+way-low : (x : Subproblem) (costs : List ℕ) (nearest n : ℕ) (way : Way) (es : List Belt) → way .belt .0 < n → ((e : Belt) → List·Memᴰ e es → e .name < n)
+    → wayBy x costs nearest way es .belt .0 < n
+way-low x costs nearest n way [] h all = h
+way-low x costs nearest n way (e ∷ es) h all =
+    way-low x costs nearest n (preferred way (beltId (e .name)) (costBy x costs nearest e) (isRequired x e)) es
+    (preferred-low n way (beltId (e .name)) (costBy x costs nearest e) (isRequired x e) h (all e (List·Memᴰ·head refl))) (λ f m. all f (List·Memᴰ·tail m))
+
 module _ {b : List ℕ} (ok : Accepted b) (bytes : Bytes b) (x : Subproblem) (t : ℕ) (inside : t ≤ planOf b .junctions) where
   -- the arrays by their size n, so that they are not written out
   start : (n : ℕ) → n ≡ 257 → Passed b x t t t (replicate n 0) (replicate n (beltId 0))
@@ -92,16 +114,23 @@ module _ {b : List ℕ} (ok : Accepted b) (bytes : Bytes b) (x : Subproblem) (t 
     found : Found b x t u way
     found = subst (Found b x t u) (sym same) (way-is ok bytes x t inside u nearest costs (done .inside) (done .near) (done .priced))
 
+    -- so its belt is one of at most 2,048, and its cost at most costLimit
+    pub passed-low : (way .belt .0 < 2048) × (way .cost ≤ costLimit)
+    passed-low = (
+      subst (λ (w : Way). w .belt .0 < 2048) (sym same)
+          (way-low x costs nearest 2048 noWay (leaving (planOf b) u) (omega arith) (λ e m. belt-low ok (e .name) (belt-of ok e (leaving-in (planOf b) u e m .0) .0) .2)),
+      omega (arith, found .costBy, cost-low ok bytes x t inside u),
+    )
+
     stored : (next : ℕ) → Nearest b x t u next → Passed b x t u next (set costs u (way .cost)) (set firsts u (way .belt))
     stored next near =
         let room = plan-sizes ok .1 in
         let past = done .inside in
         let at : u < 257 = omega arith in
-        let cheap : way .cost ≤ costLimit = omega (arith, found .costBy, cost-low ok bytes x t inside u) in
         record {
           inside = omega arith;
           sizes = (length-set costs u (way .cost) ∙ done .sizes .0, length-set firsts u (way .belt) ∙ done .sizes .1);
-          low = set-low costLimit costs u (way .cost) cheap (done .low);
+          low = set-low costLimit costs u (way .cost) (passed-low .1) (done .low);
           priced = stored-on (Costs b x t) 0 (way .cost) costs u (omega (arith, done .sizes .0)) (λ h. found .costBy) (done .priced);
           guides = stored-on (Begins (planOf b) x t) (beltId 0) (way .belt) firsts u (omega (arith, done .sizes .1)) (found .belt) (done .guides);
           near = near;
@@ -110,23 +139,15 @@ module _ {b : List ℕ} (ok : Accepted b) (bytes : Bytes b) (x : Subproblem) (t 
     pub passed-moved : way .required ≡ true → Passed b x t u u (set costs u (way .cost)) (set firsts u (way .belt))
     passed-moved h = stored u (nearest-moved u (done .inside) (sym (found .cuts) ∙ h))
 
-    -- no way on leads from u, which a required belt leaves: none leads from an earlier junction
-    pub passed-dead : way .required ≡ true → way .cost ≡ costLimit → (s : ℕ) → s ≤ u
-        → (costLimit ≡ wayCost (wayOn (planOf b) x t s)) × ((j : ℕ) → s ≤ j → Begins (planOf b) x t j (getD (set firsts u (way .belt)) j (beltId 0)))
-    passed-dead h c s l = (sym (ap wayCost (before s l)), λ j k. go j (test (leb j u)))
-      where
-        before : (j : ℕ) → j ≤ u → wayOn (planOf b) x t j ≡ none
-        before j k =
-            let (g, m, w) = any-some (isRequired x) (leaving (planOf b) u) (sym (found .cuts) ∙ h) in
-            let (i, e) = leaving-in (planOf b) u g m in
-            let past = done .inside in
-            let owed : Owed b x t (g .leaves) g = record { belt = i; wanted = w; from = omega arith; before-t = omega arith } in
-            let lost = way-lost ok bytes x t inside u (sym (found .costBy) ∙ c) in
-            way-through ok x t g owed (ap (wayOn (planOf b) x t) e ∙ lost) j (omega arith)
-
-        go : (j : ℕ) → (leb j u ≡ true) ⊎ (leb j u ≡ false) → Begins (planOf b) x t j (getD (set firsts u (way .belt)) j (beltId 0))
-        go j (inl k) e r q = absurd (Option·none-ne-some _ (sym (before j (leb-true j u k)) ∙ q))
-        go j (inr k) e r q = passed-moved h .guides j (omega (arith, leb-false j u k)) e r q
+    -- the way on from u, which a required belt leaves, costs more than k: so do those from earlier junctions
+    pub passed-above : way .required ≡ true → (k : ℕ) → k < way .cost → (s : ℕ) → s ≤ u → atMost k (wayOn (planOf b) x t s) ≡ none
+    passed-above h k c s l =
+        let (g, m, w) = any-some (isRequired x) (leaving (planOf b) u) (sym (found .cuts) ∙ h) in
+        let (i, e) = leaving-in (planOf b) u g m in
+        let past = done .inside in
+        let owed : Owed b x t (g .leaves) g = record { belt = i; wanted = w; from = omega arith; before-t = omega arith } in
+        let here : k < wayCost (wayOn (planOf b) x t u) = omega (arith, found .costBy) in
+        way-above ok x t g owed k (subst (λ (j : ℕ). k < wayCost (wayOn (planOf b) x t j)) (sym e) here) s (omega arith)
 
     pub passed-kept : way .required ≡ false → Passed b x t u nearest (set costs u (way .cost)) (set firsts u (way .belt))
     passed-kept h = stored nearest (nearest-kept u nearest (done .near) (sym (found .cuts) ∙ h))

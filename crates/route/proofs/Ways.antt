@@ -1,5 +1,6 @@
 -- The pass backwards: looking at the belts of a junction one by one gives the way on from it.
 --
+--   way-low           a way on costs less than costLimit
 --   cost-low          the cost of a way on, or of none, is at most costLimit; way-lost: where it is costLimit there is none
 --   Nearest b x t u nearest
 --                     nearest is the nearest junction from u on, before t, that a required belt leaves, or t
@@ -80,7 +81,7 @@ module _ {b : List ℕ} {x : Subproblem} {t : ℕ} where
 module _ {b : List ℕ} (ok : Accepted b) (bytes : Bytes b) (x : Subproblem) (t : ℕ) (inside : t ≤ planOf b .junctions) where
   -- ---- a way on costs less than costLimit, which stands for none
 
-  way-low : (u : ℕ) (r : List Belt) → wayOn (planOf b) x t u ≡ some r → cost r < costLimit
+  pub way-low : (u : ℕ) (r : List Belt) → wayOn (planOf b) x t u ≡ some r → cost r < costLimit
   way-low u r h = route-cheap ok bytes u t r inside (way-route ok x t u r h)
 
   pub cost-low : (u : ℕ) → wayCost (wayOn (planOf b) x t u) ≤ costLimit

@@ -32,6 +32,9 @@
 --                   the way on from u begins with belt v, if it begins with any
 --   Guides b f t s firsts
 --                   from s on each way on begins with the belt that firsts has for its junction
+--   costsIn ws, firstsIn ws
+--                   the costs and the first belts of the ways that an array of numbers has: 2,048 times the cost, and the belt
+--   Spared s t ws   an array of 257 that is 0 but for the places from s on and before t
 --   joinedIn masks m us
 --                   the mask m with all places of the masks that the array has for us
 --
@@ -40,7 +43,7 @@ use mathlib.Core.Path.{_≡_}
 use Prim.Native.Nat.{ℕ, _+_, _/_, _%_, _^_, _≤_, _<_}
 use mathlib.Core.Bool.{Bool, true, false, not, _&&_, _||_}
 use mathlib.Core.Option.{Option, none, some}
-use mathlib.Core.List.{List, [], _∷_, _++_}
+use mathlib.Core.List.{List, [], _∷_, _++_, map}
 use lib.Bits.{bitOr}
 use lib.ListN.{length, getD, set, take, drop}
 use lib.Dec.{eqb, leb, ltb}
@@ -168,6 +171,17 @@ Begins p x t u v = (e : Belt) (r : List Belt) → wayOn p x t u ≡ some (e ∷ 
 
 abbrev pub Guides : List ℕ → Fixings → ℕ → ℕ → List BeltId → Type 0
 Guides b f t s firsts = (u : ℕ) → s ≤ u → Begins (planOf b) (subproblemIn b f) t u (getD firsts u (beltId 0))
+
+abbrev pub costsIn : List ℕ → List ℕ
+costsIn ws = map (λ (w : ℕ). w / 2048) ws
+
+abbrev pub firstsIn : List ℕ → List BeltId
+firstsIn ws = map (λ (w : ℕ). beltId (w % 2048)) ws
+
+pub record Spared (s t : ℕ) (ws : List ℕ) : Type 0 where
+  pub size : length ws ≡ 257
+  pub below : (j : ℕ) → j < s → getD ws j 0 ≡ 0
+  pub above : (j : ℕ) → t ≤ j → getD ws j 0 ≡ 0
 
 abbrev pub joinedIn : List ℕ → ℕ → List ℕ → ℕ
 joinedIn masks m [] = m

@@ -1,4 +1,4 @@
--- What the values that the code hands about mean. `Trip`, `Route`, `Sheet`, `Lowest`, `Fixings` and `Relaxed` are declared by the code.
+-- What the values that the code hands about mean. `Trip`, `Route`, `Sheet`, `Lowest`, `Fixings`, `Relaxed` and `Summary` are declared by the code.
 --
 --   idsOf r          the names of the belts that a Route holds: the first `count` of its array
 --   packed es        the Route that holds the belts es, the rest of its array 0
@@ -22,6 +22,8 @@
 --   hasBelt b m e    the mask m has belt e of the plan b
 --   exitsOf b        for each number from 0 to 256 the named belts of the plan b that leave the junction of this number, as a mask
 --   relaxedAs b o    the answer that stands for a relaxed route of the plan b, or for none (noRelaxed)
+--   atMost c o       the route o, if there is one and it costs at most c
+--   summaryAs b o    the answer that stands for the cost and the named belts of a route of the plan b, or for none (noSummary)
 --   codeIn places l  the code of literal l: twice its variable, and 1 more where it is wanted (codeBy). The variable of a belt is its place among
 --                    the named belts, as the array of places has it; that of mode m is 47 + m, behind the places of 48 belts
 --   ruleEntry b r    the entry of rule r of the plan b: the next rule, and 65,536 times its first literal
@@ -37,7 +39,7 @@ use mathlib.Core.Option.{Option, none, some}
 use mathlib.Core.List.{List, [], _∷_, _++_, map, List·Memᴰ}
 use lib.Bits.{bitOr}
 use lib.ListN.{length, getD, take, replicate}
-use lib.Dec.{eqb}
+use lib.Dec.{eqb, leb}
 use Rattle.plan.specs.declared.read.BeltId.{BeltId}
 use Rattle.plan.specs.declared.read.Literal.{Literal}
 use Rattle.plan.specs.declared.read.Literal.the-variants.{OfBelt, OfMode}
@@ -54,7 +56,8 @@ use Rattle.route.specs.declared.modes.Lowest.the-variants.{Works, Nothin
 use Rattle.route.specs.declared.path.Trip.{Trip}
 use Rattle.route.specs.declared.relax.Fixings.{Fixings}
 use Rattle.route.specs.declared.relax.Relaxed.{Relaxed}
-use Rattle.route.specs.Routes.{cost, beltsByName}
+use Rattle.route.specs.declared.relax.Summary.{Summary}
+use Rattle.route.specs.Routes.{cost, costLimit, beltsByName}
 use Rattle.route.specs.Subproblems.{Subproblem}
 use Rattle.route.specs.Sheets.{sheetOf, beltsOn, costOn, settingOn}
 use Rattle.route.specs.Refusals.{Case}
@@ -131,6 +134,17 @@ noRelaxed = record { found = false; route = packed []; cost = 0; named = 0 }
 abbrev pub relaxedAs : List ℕ → Option (List Belt) → Relaxed
 relaxedAs b none = noRelaxed
 relaxedAs b (some r) = record { found = true; route = packed (namesOf r); cost = cost r; named = maskOf b (namesOf r) }
+
+abbrev pub atMost : ℕ → Option (List Belt) → Option (List Belt)
+atMost c none = none
+atMost c (some r) = elim (leb (cost r) c) [ true ↦ some r | false ↦ none ]
+
+abbrev pub noSummary : Summary
+noSummary = record { cost = costLimit; named = 0 }
+
+abbrev pub summaryAs : List ℕ → Option (List Belt) → Summary
+summaryAs b none = noSummary
+summaryAs b (some r) = record { cost = cost r; named = maskOf b (namesOf r) }
 
 -- ---- clauses
 

@@ -8,6 +8,9 @@
 // belt from u drops out if it leads past the nearest junction above u that a required belt leaves, or if a required belt leaves u and it
 // is another one. Where none leaves u, only a belt by which the way on gets cheaper is looked at further. A required belt that leaves no junction
 // from s on and before t is on no route from s to t: such a subproblem is dropped before the pass.
+//
+// A search wants the route itself only where it becomes the best, or has to be compared with it belt by belt. Of the others it asks for the cost,
+// if it is within a bound, and the named belts (`summarize`), which are found without building the route.
 use crate::masks;
 use crate::path::Route;
 use crate::path::Trip;
@@ -18,16 +21,17 @@ use plan::read::BeltId;
 ghost use mathlib.Core.Path.{_≡_};
 ghost use Prim.Native.Nat.{ℕ, _≤_, _<_};
 ghost use mathlib.Core.Bool.{true, false, not, _||_};
-ghost use lib.ListN.{getD};
+ghost use mathlib.Core.Option.{none};
+ghost use lib.ListN.{getD, replicate};
 ghost use lib.Dec.{ltb};
 ghost use Rattle.plan.specs.Lists.{any, upto};
-ghost use Rattle.plan.specs.Plan.{planOf, namesOf, leaving, placeIn};
+ghost use Rattle.plan.specs.Plan.{planOf, namesOf, leaving, placeIn, beltId};
 ghost use Rattle.plan.specs.Adjacency.{arcHead, arcName, arcsOf, endsOf};
 ghost use Rattle.plan.specs.Reading.{Accepted};
 ghost use Rattle.route.specs.Routes.{wrongEnds, costLimit};
 ghost use Rattle.route.specs.Subproblems.{relaxed};
-ghost use Rattle.route.specs.Values.{inMask, LowPlace, OfNamed, subproblemIn, namedPlaces, maskOf, exitsOf, noRelaxed, relaxedAs};
-ghost use Rattle.route.specs.Inner.{Lent, isRequired, arcBelt, wayOver, preferred, noWay, wayBy, wayIn, wayCost, Guides, joinedIn};
+ghost use Rattle.route.specs.Values.{inMask, LowPlace, OfNamed, subproblemIn, namedPlaces, maskOf, exitsOf, noRelaxed, relaxedAs, atMost, noSummary, summaryAs};
+ghost use Rattle.route.specs.Inner.{Lent, isRequired, arcBelt, wayOver, preferred, noWay, wayBy, wayIn, wayCost, Guides, costsIn, firstsIn, Spared, joinedIn};
 
 // A subproblem: masks over the named belts of the plan, bit k for the belt at place k among them.
 pub struct Fixings {
@@ -43,8 +47,17 @@ pub struct Relaxed {
     pub named: u64,
 }
 
+// The cost of a relaxed route and the named belts on it as a mask, or that there is none; then the cost is NO_WAY, and the mask 0.
+pub struct Summary {
+    pub cost: u64,
+    pub named: u64,
+}
+
 // The cost of a way that is not there: no route costs as much.
 const NO_WAY: u64 = 281474976710656;
+
+// A bound that every route keeps to.
+pub const UNBOUNDED: u64 = 281474976710655;
 
 // The cheapest way on from a junction: its cost, its first belt, and whether a required belt leaves the junction.
 struct Way {
@@ -53,23 +66,21 @@ struct Way {
     required: bool,
 }
 
-// What the pass backwards leaves: the cost of the way on from s, and the first belt of the way on from each junction.
-struct Ways {
-    cost: u64,
-    firsts: [BeltId; 257],
-}
+// The pass backwards keeps one number for each junction, 0 before it: BELTS times the cost of the way on from there, and the first belt of that way.
+// BELTS is above the number of every belt.
+const BELTS: u64 = 2048;
 
-// The cost of the cheapest way on over this belt, where the ways on from later junctions cost `costs`. A forbidden belt drops out, and one
-// that leads past `nearest`.
-fn way_over(costs: &[u64; 257], nearest: usize, arc: u64, forbidden: bool) -> u64
-    requires { ⌜ (arcHead arc < 257) × ((j : ℕ) → getD (now costs) j 0 ≤ costLimit) ⌝ }
-    ensures { λ v. ⌜ v ≡ wayOver (now (costs .entry)) nearest forbidden (arcBelt arc) ⌝ }
+// The cost of the cheapest way on over this belt, by the ways on from later junctions. A forbidden belt drops out, and one that leads past
+// `nearest`.
+fn way_over(ways: &[u64; 257], nearest: usize, arc: u64, forbidden: bool) -> u64
+    requires { ⌜ (arcHead arc < 257) × ((j : ℕ) → getD (costsIn (now ways)) j 0 ≤ costLimit) ⌝ }
+    ensures { λ v. ⌜ v ≡ wayOver (costsIn (now (ways .entry))) nearest forbidden (arcBelt arc) ⌝ }
 {
     let to = adjacency::head(arc);
     if forbidden || nearest < to {
         return NO_WAY;
     }
-    let on = costs[to];
+    let on = ways[to] / BELTS;
     if on == NO_WAY {
         return NO_WAY;
     }
@@ -101,12 +112,12 @@ fn by_required(
     ends: &[u16; 257],
     arcs: &[u64; 2048],
     fixings: Fixings,
-    costs: &[u64; 257],
+    ways: &[u64; 257],
     nearest: usize,
     u: usize,
 ) -> Way
-    requires { ⌜ Lent (now p) (now places) (now ends) (now arcs) × ((j : ℕ) → getD (now costs) j 0 ≤ costLimit) × (1 ≤ u) × (u ≤ planOf (now p) .junctions) × (any (isRequired (subproblemIn (now p) fixings)) (leaving (planOf (now p)) u) ≡ true) ⌝ }
-    ensures { λ v. ⌜ v ≡ wayBy (subproblemIn (now (p .entry)) fixings) (now (costs .entry)) nearest noWay (leaving (planOf (now (p .entry))) u) ⌝ }
+    requires { ⌜ Lent (now p) (now places) (now ends) (now arcs) × ((j : ℕ) → getD (costsIn (now ways)) j 0 ≤ costLimit) × (1 ≤ u) × (u ≤ planOf (now p) .junctions) × (any (isRequired (subproblemIn (now p) fixings)) (leaving (planOf (now p)) u) ≡ true) ⌝ }
+    ensures { λ v. ⌜ v ≡ wayBy (subproblemIn (now (p .entry)) fixings) (costsIn (now (ways .entry))) nearest noWay (leaving (planOf (now (p .entry))) u) ⌝ }
 {
     let mut way = Way {
         cost: NO_WAY,
@@ -120,7 +131,7 @@ fn by_required(
         let belt = adjacency::name(arc);
         let place = named::place_of(places, belt);
         if masks::has(fixings.required, place) {
-            let over = way_over(costs, nearest, arc, masks::has(fixings.forbidden, place));
+            let over = way_over(ways, nearest, arc, masks::has(fixings.forbidden, place));
             way = preferred(way, belt, over);
         }
         i += 1;
@@ -146,12 +157,12 @@ fn cheapest(
     ends: &[u16; 257],
     arcs: &[u64; 2048],
     fixings: Fixings,
-    costs: &[u64; 257],
+    ways: &[u64; 257],
     nearest: usize,
     u: usize,
 ) -> Way
-    requires { ⌜ Lent (now p) (now places) (now ends) (now arcs) × ((j : ℕ) → getD (now costs) j 0 ≤ costLimit) × (1 ≤ u) × (u ≤ planOf (now p) .junctions) × (any (isRequired (subproblemIn (now p) fixings)) (leaving (planOf (now p)) u) ≡ false) ⌝ }
-    ensures { λ v. ⌜ v ≡ wayBy (subproblemIn (now (p .entry)) fixings) (now (costs .entry)) nearest noWay (leaving (planOf (now (p .entry))) u) ⌝ }
+    requires { ⌜ Lent (now p) (now places) (now ends) (now arcs) × ((j : ℕ) → getD (costsIn (now ways)) j 0 ≤ costLimit) × (1 ≤ u) × (u ≤ planOf (now p) .junctions) × (any (isRequired (subproblemIn (now p) fixings)) (leaving (planOf (now p)) u) ≡ false) ⌝ }
+    ensures { λ v. ⌜ v ≡ wayBy (subproblemIn (now (p .entry)) fixings) (costsIn (now (ways .entry))) nearest noWay (leaving (planOf (now (p .entry))) u) ⌝ }
 {
     let mut best = NO_WAY;
     let mut belt = BeltId(0);
@@ -160,7 +171,7 @@ fn cheapest(
     while i < end {
         let arc = arcs[i];
         let to = adjacency::head(arc);
-        let over = adjacency::cost(arc) + costs[to];
+        let over = adjacency::cost(arc) + ways[to] / BELTS;
         if over < best {
             if is_open(places, fixings.forbidden, nearest, arc) {
                 best = over;
@@ -184,21 +195,22 @@ fn way_from(
     arcs: &[u64; 2048],
     exits: &[u64; 257],
     fixings: Fixings,
-    costs: &[u64; 257],
+    ways: &[u64; 257],
     nearest: usize,
     u: usize,
 ) -> Way
-    requires { ⌜ Lent (now p) (now places) (now ends) (now arcs) × (now exits ≡ exitsOf (now p)) × ((j : ℕ) → getD (now costs) j 0 ≤ costLimit) × (1 ≤ u) × (u ≤ planOf (now p) .junctions) × OfNamed (now p) (fixings .required) ⌝ }
-    ensures { λ v. ⌜ v ≡ wayBy (subproblemIn (now (p .entry)) fixings) (now (costs .entry)) nearest noWay (leaving (planOf (now (p .entry))) u) ⌝ }
+    requires { ⌜ Lent (now p) (now places) (now ends) (now arcs) × (now exits ≡ exitsOf (now p)) × ((j : ℕ) → getD (costsIn (now ways)) j 0 ≤ costLimit) × (1 ≤ u) × (u ≤ planOf (now p) .junctions) × OfNamed (now p) (fixings .required) ⌝ }
+    ensures { λ v. ⌜ v ≡ wayBy (subproblemIn (now (p .entry)) fixings) (costsIn (now (ways .entry))) nearest noWay (leaving (planOf (now (p .entry))) u) ⌝ }
 {
     if exits[u] & fixings.required == 0 {
-        return cheapest(p, places, ends, arcs, fixings, costs, nearest, u);
+        return cheapest(p, places, ends, arcs, fixings, ways, nearest, u);
     }
-    by_required(p, places, ends, arcs, fixings, costs, nearest, u)
+    by_required(p, places, ends, arcs, fixings, ways, nearest, u)
 }
 
-// The pass backwards. `nearest` is the nearest junction above u that a required belt leaves, or t. Every route with the required belts goes through
-// such a junction, so where no way leads on from there the pass is over.
+// The pass backwards: the cost of the way on from s, or NO_WAY where there is none or it costs more than `bound`. `nearest` is the nearest junction
+// above u that a required belt leaves, or t. Every route with the required belts goes through such a junction, so where the way on from there
+// costs too much the pass is over. Only the ways of junctions from s on and before t are changed.
 fn ways_to(
     p: &[u8],
     places: &[u8; 2048],
@@ -206,41 +218,54 @@ fn ways_to(
     arcs: &[u64; 2048],
     exits: &[u64; 257],
     fixings: Fixings,
+    bound: u64,
     s: usize,
     t: usize,
-) -> Ways
-    requires { ⌜ Lent (now p) (now places) (now ends) (now arcs) × (now exits ≡ exitsOf (now p)) × (1 ≤ s) × (s ≤ t) × (t ≤ planOf (now p) .junctions) × OfNamed (now p) (fixings .required) ⌝ }
-    ensures { λ v. ⌜ (v .cost ≡ wayCost (wayIn (now (p .entry)) fixings t s)) × Guides (now (p .entry)) fixings t s (v .firsts) ⌝ }
+    ways: &mut [u64; 257],
+) -> u64
+    requires { ⌜ Lent (now p) (now places) (now ends) (now arcs) × (now exits ≡ exitsOf (now p)) × (1 ≤ s) × (s ≤ t) × (t ≤ planOf (now p) .junctions) × OfNamed (now p) (fixings .required) × (bound < costLimit) × (now ways ≡ replicate 257 0) ⌝ }
+    ensures { λ v. ⌜ (v ≡ wayCost (atMost bound (wayIn (now (p .entry)) fixings t s))) × (v ≤ bound → Guides (now (p .entry)) fixings t s (firstsIn (now (ways .exit)))) × Spared s t (now (ways .exit)) ⌝ }
 {
-    let mut costs = [0u64; 257];
-    let mut firsts = [BeltId(0); 257];
     let mut nearest = t;
     let mut u = t;
     while s < u {
         u -= 1;
-        let way = way_from(p, places, ends, arcs, exits, fixings, &costs, nearest, u);
+        let way = way_from(p, places, ends, arcs, exits, fixings, ways, nearest, u);
         let belt = way.belt;
-        costs[u] = way.cost;
-        firsts[u] = belt;
+        ways[u] = way.cost * BELTS + belt.0 as u64;
         if way.required {
-            if way.cost == NO_WAY {
-                return Ways {
-                    cost: NO_WAY,
-                    firsts: firsts,
-                };
+            if bound < way.cost {
+                return NO_WAY;
             }
             nearest = u;
         }
     }
-    Ways {
-        cost: costs[s],
-        firsts: firsts,
+    let cost = ways[s] / BELTS;
+    if bound < cost {
+        return NO_WAY;
     }
+    cost
+}
+
+// The first belt of the way on from junction u.
+fn first_of(ways: &[u64; 257], u: usize) -> BeltId
+    requires { ⌜ u < 257 ⌝ }
+    ensures { λ v. ⌜ v ≡ getD (firstsIn (now (ways .entry))) u (beltId 0) ⌝ }
+{
+    BeltId((ways[u] % BELTS) as u16)
 }
 
 // The walk forward, from s where there is a way on: the route that it is.
-fn walk(p: &[u8], places: &[u8; 2048], fixings: Fixings, ways: Ways, s: usize, t: usize) -> Relaxed
-    requires { ⌜ Accepted (now p) × (now places ≡ namedPlaces (now p)) × (1 ≤ s) × (t ≤ planOf (now p) .junctions) × (ways .cost ≡ costLimit → ⊥) × (ways .cost ≡ wayCost (wayIn (now p) fixings t s)) × Guides (now p) fixings t s (ways .firsts) ⌝ }
+fn walk(
+    p: &[u8],
+    places: &[u8; 2048],
+    fixings: Fixings,
+    cost: u64,
+    ways: &[u64; 257],
+    s: usize,
+    t: usize,
+) -> Relaxed
+    requires { ⌜ Accepted (now p) × (now places ≡ namedPlaces (now p)) × (1 ≤ s) × (t ≤ planOf (now p) .junctions) × (cost ≡ costLimit → ⊥) × (cost ≡ wayCost (wayIn (now p) fixings t s)) × Guides (now p) fixings t s (firstsIn (now ways)) ⌝ }
     ensures { λ v. ⌜ v ≡ relaxedAs (now (p .entry)) (wayIn (now (p .entry)) fixings t s) ⌝ }
 {
     let mut belts = [BeltId(0); 255];
@@ -248,7 +273,7 @@ fn walk(p: &[u8], places: &[u8; 2048], fixings: Fixings, ways: Ways, s: usize, t
     let mut seen = 0u64;
     let mut at = s;
     while at != t {
-        let belt = ways.firsts[at];
+        let belt = first_of(ways, at);
         belts[count] = belt;
         count += 1;
         seen = masks::with(seen, named::place_of(places, belt));
@@ -260,8 +285,43 @@ fn walk(p: &[u8], places: &[u8; 2048], fixings: Fixings, ways: Ways, s: usize, t
             count: count,
             belts: belts,
         },
-        cost: ways.cost,
+        cost: cost,
         named: seen,
+    }
+}
+
+// The same walk, of which only the named belts are kept.
+fn named_on(
+    p: &[u8],
+    places: &[u8; 2048],
+    fixings: Fixings,
+    cost: u64,
+    ways: &[u64; 257],
+    s: usize,
+    t: usize,
+) -> u64
+    requires { ⌜ Accepted (now p) × (now places ≡ namedPlaces (now p)) × (1 ≤ s) × (t ≤ planOf (now p) .junctions) × (cost ≡ costLimit → ⊥) × (cost ≡ wayCost (wayIn (now p) fixings t s)) × Guides (now p) fixings t s (firstsIn (now ways)) ⌝ }
+    ensures { λ v. ⌜ v ≡ relaxedAs (now (p .entry)) (wayIn (now (p .entry)) fixings t s) .named ⌝ }
+{
+    let mut seen = 0u64;
+    let mut at = s;
+    while at != t {
+        let belt = first_of(ways, at);
+        seen = masks::with(seen, named::place_of(places, belt));
+        at = read::leads_to(p, belt);
+    }
+    seen
+}
+
+// Clears the ways of the junctions from s on and before t.
+fn clear(ways: &mut [u64; 257], s: usize, t: usize)
+    requires { ⌜ (t ≤ 257) × Spared s t (now ways) ⌝ }
+    ensures { λ _. ⌜ now (ways .exit) ≡ replicate 257 0 ⌝ }
+{
+    let mut j = s;
+    while j < t {
+        ways[j] = 0;
+        j += 1;
     }
 }
 
@@ -277,6 +337,20 @@ fn inside(exits: &[u64; 257], s: usize, t: usize) -> u64
         u += 1;
     }
     mask
+}
+
+// Whether s is not past t, and every required belt leaves some junction from s on and before t. Then the way on from s is the relaxed route, and
+// else there is none.
+fn may_lead(p: &[u8], exits: &[u64; 257], trip: Trip, fixings: Fixings) -> bool
+    requires { ⌜ Accepted (now p) × (now exits ≡ exitsOf (now p)) × (wrongEnds (planOf (now p)) (trip .s) (trip .t) ≡ false) × OfNamed (now p) (fixings .required) ⌝ }
+    ensures { λ v. ⌜ (v ≡ true → (trip .s ≤ trip .t) × (wayIn (now (p .entry)) fixings (trip .t) (trip .s) ≡ relaxed (planOf (now (p .entry))) (trip .s) (trip .t) (subproblemIn (now (p .entry)) fixings))) × (v ≡ false → relaxed (planOf (now (p .entry))) (trip .s) (trip .t) (subproblemIn (now (p .entry)) fixings) ≡ none) ⌝ }
+{
+    let s = trip.s as usize;
+    let t = trip.t as usize;
+    if t < s {
+        return false;
+    }
+    fixings.required & inside(exits, s, t) == fixings.required
 }
 
 // No relaxed route.
@@ -308,19 +382,71 @@ pub fn relaxed_route(
     requires { ⌜ Accepted (now p) × (now places ≡ namedPlaces (now p)) × (now ends ≡ endsOf (planOf (now p))) × (now arcs ≡ arcsOf (planOf (now p))) × (now exits ≡ exitsOf (now p)) × (wrongEnds (planOf (now p)) (trip .s) (trip .t) ≡ false) × OfNamed (now p) (fixings .required) ⌝ }
     ensures { λ v. ⌜ v ≡ relaxedAs (now (p .entry)) (relaxed (planOf (now (p .entry))) (trip .s) (trip .t) (subproblemIn (now (p .entry)) fixings)) ⌝ }
 {
+    if !may_lead(p, exits, trip, fixings) {
+        return nothing();
+    }
     let s = trip.s as usize;
     let t = trip.t as usize;
-    if t < s {
+    let mut ways = [0u64; 257];
+    let cost = ways_to(
+        p,
+        places,
+        ends,
+        arcs,
+        exits,
+        fixings,
+        UNBOUNDED,
+        s,
+        t,
+        &mut ways,
+    );
+    if cost == NO_WAY {
         return nothing();
     }
-    if fixings.required & inside(exits, s, t) != fixings.required {
-        return nothing();
+    walk(p, places, fixings, cost, &ways, s, t)
+}
+
+// No relaxed route.
+fn no_summary() -> Summary
+    ensures { λ v. ⌜ v ≡ noSummary ⌝ }
+{
+    Summary {
+        cost: NO_WAY,
+        named: 0,
     }
-    let ways = ways_to(p, places, ends, arcs, exits, fixings, s, t);
-    if ways.cost == NO_WAY {
-        return nothing();
+}
+
+// The cost and the named belts of a subproblem's relaxed route, if it costs at most `bound`. What is lent is as for `relaxed_route`; `ways` is room
+// to work in, all 0 before and after.
+pub fn summarize(
+    p: &[u8],
+    places: &[u8; 2048],
+    ends: &[u16; 257],
+    arcs: &[u64; 2048],
+    exits: &[u64; 257],
+    trip: Trip,
+    fixings: Fixings,
+    bound: u64,
+    ways: &mut [u64; 257],
+) -> Summary
+    requires { ⌜ Accepted (now p) × (now places ≡ namedPlaces (now p)) × (now ends ≡ endsOf (planOf (now p))) × (now arcs ≡ arcsOf (planOf (now p))) × (now exits ≡ exitsOf (now p)) × (wrongEnds (planOf (now p)) (trip .s) (trip .t) ≡ false) × OfNamed (now p) (fixings .required) × (bound < costLimit) × (now ways ≡ replicate 257 0) ⌝ }
+    ensures { λ v. ⌜ (v ≡ summaryAs (now (p .entry)) (atMost bound (relaxed (planOf (now (p .entry))) (trip .s) (trip .t) (subproblemIn (now (p .entry)) fixings)))) × (now (ways .exit) ≡ now (ways .entry)) ⌝ }
+{
+    if !may_lead(p, exits, trip, fixings) {
+        return no_summary();
     }
-    walk(p, places, fixings, ways, s, t)
+    let s = trip.s as usize;
+    let t = trip.t as usize;
+    let cost = ways_to(p, places, ends, arcs, exits, fixings, bound, s, t, ways);
+    let mut named = 0u64;
+    if cost != NO_WAY {
+        named = named_on(p, places, fixings, cost, ways, s, t);
+    }
+    clear(ways, s, t);
+    Summary {
+        cost: cost,
+        named: named,
+    }
 }
 
 // The named belts that leave junction u, as a mask.

@@ -16,7 +16,7 @@ use Rattle.plan.proofs.Reading.{plan-sizes}
 use Rattle.route.specs.declared.relax.Fixings.{Fixings}
 use Rattle.route.specs.declared.relax.Way.{Way}
 use Rattle.route.specs.Values.{inMask, fixedIn, subproblemIn, LowPlace}
-use Rattle.route.specs.Inner.{wayOver, preferred, noWay, wayBy}
+use Rattle.route.specs.Inner.{wayOver, preferred, noWay, wayBy, costsIn}
 use Rattle.route.proofs.Fixed.{fixed-mem}
 use Rattle.route.proofs.Required.{Needed, needed-start, needed-taken, needed-passed, needed-end}
 use Rattle.route.proofs.Spans.{Left, Next, end-low, left-start, left-next, left-end, arc-low, arc-place}
@@ -29,10 +29,10 @@ Gives p f costs nearest u way es =
     Needed (subproblemIn p f) costs nearest (wayBy (subproblemIn p f) costs nearest noWay (leaving (planOf p) u)) way es
 
 abbrev Inv-loop : tie.InvT-loop
-Inv-loop p places ends arcs fixings costs nearest u way₀ end i₀ way i = Left p arcs i end (Gives p fixings costs nearest u way)
+Inv-loop p places ends arcs fixings ways nearest u way₀ end i₀ way i = Left p arcs i end (Gives p fixings (costsIn ways) nearest u way)
 
 abbrev μ-loop : tie.MeasureT-loop
-μ-loop p places ends arcs fixings costs nearest u way₀ end i₀ way i = end - i
+μ-loop p places ends arcs fixings ways nearest u way₀ end i₀ way i = end - i
 
 -- u is a junction, and there are at most 256
 below : (c : tie.Start Inv-loop μ-loop) → c .args .u < 257
@@ -79,7 +79,7 @@ bytes : (c : tie.In-loop Inv-loop μ-loop) → Bytes (start c .args .p .now)
 bytes c i = c .before .before .before .before .shared-slice-known .given i .fits
 
 next : (c : tie.In-loop Inv-loop μ-loop) → let a = start c .args in
-    Next (a .p .now) (a .arcs .now) (c .before .loop .i) (getD (a .ends .now) (a .u) 0) (Gives (a .p .now) (a .fixings) (a .costs .now) (a .nearest) (a .u) (c .before .loop .way))
+    Next (a .p .now) (a .arcs .now) (c .before .loop .i) (getD (a .ends .now) (a .u) 0) (Gives (a .p .now) (a .fixings) (costsIn (a .ways .now)) (a .nearest) (a .u) (c .before .loop .way))
 next c = left-next (start c .pre .0 .accepted) (bytes c) (c .before .loop .inv) (c .loop-test .taken)
 
 mul-arc : tie.Need-mul-arc Inv-loop μ-loop
@@ -135,7 +135,7 @@ fixes c m =
 
 -- what is left makes of the way, once the belt is looked at, what it is to give
 passed : (c : tie.Joined1 Inv-loop μ-loop) → let turn = c .before .before .before .before .before .before in let a = start turn .args in
-    Gives (a .p .now) (a .fixings) (a .costs .now) (a .nearest) (a .u) (c .if1 .way) (next turn .others)
+    Gives (a .p .now) (a .fixings) (costsIn (a .ways .now)) (a .nearest) (a .u) (c .if1 .way) (next turn .others)
 passed c =
     let asked = c .before in
     let found = asked .before in
@@ -143,13 +143,13 @@ passed c =
     let a = start turn .args in
     let n = next turn in
     let e = n .belt in
-    let give : Way → Type 0 = λ way. Gives (a .p .now) (a .fixings) (a .costs .now) (a .nearest) (a .u) way (n .others) in
+    let give : Way → Type 0 = λ way. Gives (a .p .now) (a .fixings) (costsIn (a .ways .now)) (a .nearest) (a .u) way (n .others) in
     let needed = sym (fixes found (a .fixings .required)) ∙ sym (asked .has .ensures) in
     ⊎-elim
     (λ w.
     let out = w .1 .ensures ∙ fixes found (a .fixings .forbidden) in
     let arc = n .arc in
-    let over = w .2 .ensures ∙ (λ i. wayOver (a .costs .now) (a .nearest) (out i) (record { name = e .name; leaves = e .leaves; leads = arc .leads i; cost = arc .costs i })) in
+    let over = w .2 .ensures ∙ (λ i. wayOver (costsIn (a .ways .now)) (a .nearest) (out i) (record { name = e .name; leaves = e .leaves; leads = arc .leads i; cost = arc .costs i })) in
     let name : found .before .before .name .result .0 ≡ e .name = found .before .before .name .ensures ∙ arc .names in
     subst give (sym (w .4 ∙ w .3 .ensures ∙ (λ i. preferred (turn .before .loop .way) (beltId (name i)) (over i) true))) (needed-taken (n .passes) (needed ∙ w .0 .taken)))
     (λ w. subst give (sym (w .1)) (needed-passed (n .passes) (needed ∙ w .0 .left)))

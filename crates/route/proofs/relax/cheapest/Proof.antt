@@ -4,7 +4,7 @@ use mathlib.Core.Path.{_≡_, sym, _∙_, ap, subst, subst₂}
 use mathlib.Core.Logic.{inl, inr, ⊎-elim}
 use mathlib.Core.Bool.{_||_}
 use mathlib.Core.List.{List}
-use Prim.Native.Nat.{ℕ, _+_, _-_, _≤_, _<_}
+use Prim.Native.Nat.{ℕ, _+_, _-_, _/_, _≤_, _<_}
 use native.Mathlib.Omega.{arith}
 use borrow.Author.Needs.{needs}
 use borrow.Author.Tests.{not-true, not-false}
@@ -17,8 +17,9 @@ use Rattle.plan.specs.Reading.{Bytes}
 use Rattle.plan.proofs.Reading.{plan-sizes, belts-cost}
 use Rattle.route.specs.declared.relax.Fixings.{Fixings}
 use Rattle.route.specs.Values.{inMask, subproblemIn}
-use Rattle.route.specs.Inner.{isForbidden, noWay, wayBy}
+use Rattle.route.specs.Inner.{isForbidden, noWay, wayBy, costsIn}
 use Rattle.route.proofs.Fixed.{fixed-mem}
+use Rattle.route.proofs.Kept.{cost-at}
 use Rattle.route.proofs.Cheapest.{Cheap, cheap-start, cheap-taken, cheap-passed, cheap-end}
 use Rattle.route.proofs.Spans.{Left, Next, end-low, left-start, left-next, left-end, arc-low, arc-place}
 use Rattle.route.proofs.relax.cheapest.Statement.{statement}
@@ -30,10 +31,10 @@ Gives p f costs nearest u best belt es =
     Cheap (subproblemIn p f) costs nearest (wayBy (subproblemIn p f) costs nearest noWay (leaving (planOf p) u)) best belt es
 
 abbrev Inv-loop : tie.InvT-loop
-Inv-loop p places ends arcs fixings costs nearest u best₀ belt₀ end i₀ best belt i = Left p arcs i end (Gives p fixings costs nearest u best belt)
+Inv-loop p places ends arcs fixings ways nearest u best₀ belt₀ end i₀ best belt i = Left p arcs i end (Gives p fixings (costsIn ways) nearest u best belt)
 
 abbrev μ-loop : tie.MeasureT-loop
-μ-loop p places ends arcs fixings costs nearest u best₀ belt₀ end i₀ best belt i = end - i
+μ-loop p places ends arcs fixings ways nearest u best₀ belt₀ end i₀ best belt i = end - i
 
 -- u is a junction, and there are at most 256
 below : (c : tie.Start Inv-loop μ-loop) → c .args .u < 257
@@ -80,7 +81,7 @@ bytes : (c : tie.In-loop Inv-loop μ-loop) → Bytes (start c .args .p .now)
 bytes c i = c .before .before .before .before .shared-slice-known .given i .fits
 
 next : (c : tie.In-loop Inv-loop μ-loop) → let a = start c .args in let loop = c .before .loop in
-    Next (a .p .now) (a .arcs .now) (loop .i) (getD (a .ends .now) (a .u) 0) (Gives (a .p .now) (a .fixings) (a .costs .now) (a .nearest) (a .u) (loop .best) (loop .belt))
+    Next (a .p .now) (a .arcs .now) (loop .i) (getD (a .ends .now) (a .u) 0) (Gives (a .p .now) (a .fixings) (costsIn (a .ways .now)) (a .nearest) (a .u) (loop .best) (loop .belt))
 next c = left-next (start c .pre .0 .accepted) (bytes c) (c .before .loop .inv) (c .loop-test .taken)
 
 low : (c : tie.In-loop Inv-loop μ-loop) → let arc = getD (start c .args .arcs .now) (c .before .loop .i) 0 in (arcHead arc < 257) × (arcName arc < 2048)
@@ -109,7 +110,7 @@ add-over c =
     let turn = c .before .before .before .before in
     let arc = next turn .arc in
     let cheap = belts-cost (start turn .pre .0 .accepted) (bytes turn) (next turn .belt) (arc .belt) in
-    omega (arith, c .before .cost .ensures, arc .costs, start turn .pre .1 (c .before .before .head .result))
+    omega (arith, c .before .cost .ensures, arc .costs, start turn .pre .1 (c .before .before .head .result), cost-at (start turn .args .ways .now) (c .before .before .head .result))
 
 is-open-requires : tie.Need-is-open-requires Inv-loop μ-loop
 is-open-requires c κs =
@@ -127,14 +128,16 @@ loop-less : tie.Need-loop-less Inv-loop μ-loop
 loop-less c = search needs
 
 -- the sum over the belt
-sum : (c : tie.After-over Inv-loop μ-loop) → let turn = c .before .before .before .before in let costs = start turn .args .costs .now in
-    c .before .cost .result + getD costs (c .before .before .head .result) 0 ≡ next turn .belt .cost + getD costs (next turn .belt .leads) 0
+sum : (c : tie.After-over Inv-loop μ-loop) → let turn = c .before .before .before .before in let ways = start turn .args .ways .now in
+    c .before .cost .result + getD ways (c .before .before .head .result) 0 / 2048 ≡ next turn .belt .cost + getD (costsIn ways) (next turn .belt .leads) 0
 sum c =
     let turn = c .before .before .before .before in
     let arc = next turn .arc in
     let costs = c .before .cost .ensures ∙ arc .costs in
     let leads = c .before .before .head .ensures ∙ arc .leads in
-    λ i. costs i + getD (start turn .args .costs .now) (leads i) 0
+    let ways = start turn .args .ways .now in
+    let on = sym (cost-at ways (c .before .before .head .result)) ∙ ap (λ (j : ℕ). getD (costsIn ways) j 0) leads in
+    λ i. costs i + on i
 
 -- whether it drops out
 shut : (c : tie.In-loop Inv-loop μ-loop) → let a = start c .args in let arc = getD (a .arcs .now) (c .before .loop .i) 0 in
@@ -149,12 +152,12 @@ shut c =
 
 -- what is left makes of the way, once the belt is looked at, what it is to give
 passed : (c : tie.Joined1 Inv-loop μ-loop) → let turn = c .before .before .before .before .before in let a = start turn .args in
-    Gives (a .p .now) (a .fixings) (a .costs .now) (a .nearest) (a .u) (c .if1 .best) (c .if1 .belt) (next turn .others)
+    Gives (a .p .now) (a .fixings) (costsIn (a .ways .now)) (a .nearest) (a .u) (c .if1 .best) (c .if1 .belt) (next turn .others)
 passed c =
     let turn = c .before .before .before .before .before in
     let a = start turn .args in
     let n = next turn in
-    let give : ℕ → BeltId → Type 0 = λ best belt. Gives (a .p .now) (a .fixings) (a .costs .now) (a .nearest) (a .u) best belt (n .others) in
+    let give : ℕ → BeltId → Type 0 = λ best belt. Gives (a .p .now) (a .fixings) (costsIn (a .ways .now)) (a .nearest) (a .u) best belt (n .others) in
     let over = sum (c .before) in
     ⊎-elim
     (λ w.

@@ -6,8 +6,9 @@ use native.Mathlib.Omega.{arith}
 use lib.ListN.{getD}
 use lib.Dec.{ltb}
 use borrow.Author.Needs.{needs}
-use Rattle.route.specs.Inner.{arcBelt}
+use Rattle.route.specs.Inner.{arcBelt, costsIn}
 use Rattle.route.proofs.Looking.{by-none, by-some}
+use Rattle.route.proofs.Kept.{cost-at}
 use Rattle.route.proofs.relax.way_over.Statement.{statement}
 use Rattle.route.proofs.relax.way_over.Tie as tie
 
@@ -34,7 +35,7 @@ returns-2 c =
     let past = c .before .before in
     let start = past .before .before .before in
     let to = sym (past .before .before .head .ensures) in
-    let none = ap (λ (j : ℕ). getD (start .args .costs .now) j 0) to ∙ c .if3 .taken in
+    let none = ap (λ (j : ℕ). getD (costsIn (start .args .ways .now)) j 0) to ∙ cost-at (start .args .ways .now) _ ∙ c .if3 .taken in
     simp (past .before .if1 .left, ap (ltb (start .args .nearest)) to ∙ past .if2 .left) (sym (by-none (arcBelt (start .args .arc)) _ none))
 
 cost-requires : tie.Need-cost-requires
@@ -43,14 +44,14 @@ cost-requires c κs = search needs
 add-result : tie.Need-add-result
 add-result c =
     let start = c .before .before .before .before .before .before in
-    omega (arith, c .cost .ensures, start .fits .arc, start .pre .1 (c .before .before .before .before .before .head .result))
+    omega (arith, c .cost .ensures, start .fits .arc, start .pre .1 (c .before .before .before .before .before .head .result), cost-at (start .args .ways .now) (c .before .before .before .before .before .head .result))
 
 returns-3 : tie.Need-returns-3
 returns-3 c =
     let past = c .before .before .before in
     let start = past .before .before .before in
     let to = past .before .before .head .ensures in
-    let on = ap (λ (j : ℕ). getD (start .args .costs .now) j 0) to in
+    let on = sym (cost-at (start .args .ways .now) _) ∙ ap (λ (j : ℕ). getD (costsIn (start .args .ways .now)) j 0) to in
     let sum = (λ i. c .cost .ensures i + on i) ∙ sym (by-some (arcBelt (start .args .arc)) _ (λ z. c .before .if3 .left (on ∙ z))) in
     simp (past .before .if1 .left, ap (ltb (start .args .nearest)) (sym to) ∙ past .if2 .left) sum
 

@@ -1,0 +1,133 @@
+-- `relax::named_on` meets its contract: the walk with its belts stored nowhere. What is left of the way on from s, behind what is gathered, is
+-- the whole of it (Walked), for some belts as if they were stored.
+-- Assumes nothing.
+use mathlib.Core.Path.{_≡_, refl, sym, _∙_, ap, subst, subst₂}
+use Prim.Native.Nat.{ℕ, _+_, _-_, _<_}
+use mathlib.Core.List.{List}
+use native.Mathlib.Omega.{arith}
+use lib.ListN.{getD, set, replicate}
+use Rattle.plan.specs.declared.read.BeltId.{BeltId}
+use Rattle.plan.specs.Plan.{beltId, placeIn}
+use Rattle.plan.proofs.Reading.{plan-sizes, belt-low}
+use Rattle.route.specs.declared.relax.Fixings.{Fixings}
+use Rattle.route.specs.declared.relax.Relaxed.{Relaxed}
+use Rattle.route.specs.Values.{withPlace, LowPlace, namedPlaces}
+use Rattle.route.specs.Inner.{wayIn, wayCost, Guides, firstsIn}
+use Rattle.route.proofs.Fixed.{place-low, looked-up}
+use Rattle.route.proofs.Walked.{Walked, Step, walked-start, walked-next, walked-whole}
+use Rattle.route.proofs.relax.named_on.Statement.{statement}
+use Rattle.route.proofs.relax.named_on.Tie as tie
+
+-- the ways are those of the fixings f
+abbrev Of : List ℕ → Fixings → ℕ → ℕ → ℕ → List ℕ → Type 0
+Of p f s t cost ways = (cost ≡ wayCost (wayIn p f t s)) × Guides p f t s (firstsIn ways)
+
+-- some belts and their count, of which none is kept
+abbrev Gathered : List ℕ → Fixings → ℕ → ℕ → ℕ → ℕ → Type 0
+Gathered p f s t at seen = (count : ℕ) × (belts : List BeltId) × Walked p f s t at count belts seen
+
+abbrev Inv-loop : tie.InvT-loop
+Inv-loop p places cost ways s t seen₀ at₀ seen at = (f : Fixings) → Of p f s t cost ways → Gathered p f s t at seen
+
+abbrev μ-loop : tie.MeasureT-loop
+μ-loop p places cost ways s t seen₀ at₀ seen at = t - at
+
+loop-holds : tie.Need-loop-holds Inv-loop μ-loop
+loop-holds c f of = let pre = c .before .pre in (0, replicate 255 (beltId 0), walked-start (pre .0) (pre .2) (pre .3) (of .0) (pre .4))
+
+-- a turn of the loop: where the walk was asked for
+abbrev start : tie.In-loop Inv-loop μ-loop → tie.Start Inv-loop μ-loop
+start c = c .before .before .before
+
+abbrev plan : tie.In-loop Inv-loop μ-loop → List ℕ
+plan c = start c .args .p .now
+
+-- it can go on by belt x
+abbrev Goes : (c : tie.In-loop Inv-loop μ-loop) → Fixings → BeltId → Type 0
+Goes c f x =
+    (count : ℕ) × (belts : List BeltId) × Step (plan c) f (start c .args .s) (start c .args .t) (c .before .loop .at) count belts (c .before .loop .seen) x
+
+first : (c : tie.In-loop Inv-loop μ-loop) (f : Fixings) → Of (plan c) f (start c .args .s) (start c .args .t) (start c .args .cost) (start c .args .ways .now)
+    → Goes c f (getD (firstsIn (start c .args .ways .now)) (c .before .loop .at) (beltId 0))
+first c f of =
+    let (count, belts, walked) = c .before .loop .inv f of in
+    (count, belts, walked-next (start c .pre .0) walked (firstsIn (start c .args .ways .now)) (of .1) (c .loop-test .taken))
+
+first-of-requires : tie.Need-first-of-requires Inv-loop μ-loop
+first-of-requires c κs =
+    let pre = start c .pre in
+    let step = first c (start c .args .fixings) (pre .5, pre .6) .2 in
+    omega (arith, step .higher, step .inside, pre .3, plan-sizes (pre .0) .1)
+
+-- the belt that it goes by
+abbrev belt : tie.After-first-of Inv-loop μ-loop → BeltId
+belt c = c .first-of .result
+
+next : (c : tie.After-first-of Inv-loop μ-loop) (f : Fixings)
+    → Of (plan (c .before)) f (start (c .before) .args .s) (start (c .before) .args .t) (start (c .before) .args .cost) (start (c .before) .args .ways .now)
+    → Goes (c .before) f (belt c)
+next c f of = subst (Goes (c .before) f) (sym (c .first-of .ensures)) (first (c .before) f of)
+
+step : (c : tie.After-first-of Inv-loop μ-loop) → Goes (c .before) (start (c .before) .args .fixings) (belt c)
+step c = let pre = start (c .before) .pre in next c (start (c .before) .args .fixings) (pre .5, pre .6)
+
+place-of-requires : tie.Need-place-of-requires Inv-loop μ-loop
+place-of-requires c κs =
+    let turn = c .before in
+    omega (arith, c .place-of-arg .given .0, belt-low (start (turn .before) .pre .0) (belt turn .0) (step turn .2 .belt) .2)
+
+-- what is looked up is the place of the belt, which has a bit in a mask
+there : (c : tie.After-place-of Inv-loop μ-loop) → let turn = c .before .before in
+    (c .place-of .result ≡ placeIn (namedPlaces (plan (turn .before))) (belt turn .0)) × LowPlace (c .place-of .result)
+there c =
+    let turn = c .before .before in
+    let pre = start (turn .before) .pre in
+    let e = belt turn .0 in
+    let is = looked-up (plan (turn .before)) e (pre .1) refl (belt-low (pre .0) e (step turn .2 .belt) .2) in
+    (c .place-of .ensures ∙ ap (λ (ps : List ℕ). placeIn ps e) (pre .1), subst LowPlace (sym (c .place-of .ensures ∙ is)) (place-low (pre .0) e))
+
+with-requires : tie.Need-with-requires Inv-loop μ-loop
+with-requires c κs = there c .1
+
+leads-to-requires : tie.Need-leads-to-requires Inv-loop μ-loop
+leads-to-requires c κs =
+    let turn = c .before .before .before in
+    (start (turn .before) .pre .0, step turn .2 .belt)
+
+loop-less : tie.Need-loop-less Inv-loop μ-loop
+loop-less c =
+    let turn = c .before .before .before .before in
+    omega (arith, step turn .2 .higher, step turn .2 .inside, c .leads-to .ensures)
+
+loop-again : tie.Need-loop-again Inv-loop μ-loop
+loop-again c f of =
+    let gathered = c .before in
+    let turn = gathered .before .before .before in
+    let loop = turn .before .before .loop in
+    let args = start (turn .before) .args in
+    let mask = gathered .with .ensures ∙ ap (withPlace (loop .seen)) (there (gathered .before) .0) in
+    let (count, belts, on) = next turn f of in
+    subst₂ (λ (u m : ℕ). Gathered (plan (turn .before)) f (args .s) (args .t) u m) (sym (c .leads-to .ensures)) (sym mask)
+    (count + 1, set belts count (belt turn), on .walked)
+
+returns : tie.Need-returns Inv-loop μ-loop
+returns c =
+    let from = c .before .before .before in
+    let pre = from .pre in
+    let (count, belts, walked) = c .before .loop .inv (from .args .fixings) (pre .5, pre .6) in
+    ap (λ (w : Relaxed). w .named) (walked-whole (pre .0) walked (pre .5) (c .loop-test .left))
+
+pub named-on-spec : {M : Type 1} → statement M
+named-on-spec =
+    tie.close
+    (tie.spec
+    Inv-loop
+    μ-loop
+    loop-holds
+    first-of-requires
+    place-of-requires
+    with-requires
+    leads-to-requires
+    loop-less
+    loop-again
+    returns)
