@@ -44,25 +44,27 @@ pub fn named_belts(p: &[u8]) -> Named
     }
 }
 
-// The places of all belts among the named belts of an accepted plan, for `place_of`.
+// The places of all belts among the named belts of an accepted plan, which are lent as `named_belts` answers them, for `place_of`.
+pub fn places_among(p: &[u8], list: Named) -> [u8; 2048]
+    requires { ⌜ Accepted (now p) × (list .count ≡ length (named (planOf (now p)))) × (list .belts ≡ listed (named (planOf (now p)))) ⌝ }
+    ensures { λ v. ⌜ v ≡ placesOf (named (planOf (now (p .entry)))) ⌝ }
+{
+    let mut places = [0u8; 2048];
+    let mut k = 0;
+    while k < list.count {
+        let belt = list.belts[k];
+        k += 1;
+        places[belt.0 as usize] = k as u8;
+    }
+    places
+}
+
+// The places of all belts among the named belts of an accepted plan.
 pub fn named_places(p: &[u8]) -> [u8; 2048]
     requires { ⌜ Accepted (now p) ⌝ }
     ensures { λ v. ⌜ v ≡ placesOf (named (planOf (now (p .entry)))) ⌝ }
 {
-    let mut marks = [0u8; 2048];
-    notes::note_named(p, &mut marks);
-    let n = record::records(p);
-    let mut places = [0u8; 2048];
-    let mut count: u8 = 0;
-    let mut e = 0;
-    while e < n {
-        if marks[e] == 1 {
-            count += 1;
-            places[e] = count;
-        }
-        e += 1;
-    }
-    places
+    places_among(p, named_belts(p))
 }
 
 // The place of a belt, out of the array of all places.

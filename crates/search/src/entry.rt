@@ -114,13 +114,14 @@ fn find_route(p: &[u8], query: Query, out: &mut [u8]) -> Answer
     requires { ⌜ Accepted (now p) × (wrongEnds (planOf (now p)) (query .trip .s) (query .trip .t) ≡ false) × (3072 ≤ length (now out)) ⌝ }
     ensures { λ v. ⌜ Told (replyOf v) (now (out .entry)) (now (out .exit)) (unlessRefused 0 (requestOf (now (p .entry)) query (now (out .entry)))) ⌝ }
 {
-    let places = named::named_places(p);
+    let list = named::named_belts(p);
+    let places = named::places_among(p, list);
     let mut arcs = [0u64; 2048];
     let ends = adjacency::decode(p, &mut arcs);
     let exits = relax::exits(p, &places, &ends, &arcs);
     let mut clauses = [0u32; 2048];
     clauses::decode(p, &places, &mut clauses);
-    let counts = pick::rule_counts(p, &places);
+    let counts = pick::rule_counts(p, &places, list.count);
     let stepped = run::run(p, &places, &ends, &arcs, &exits, &clauses, counts, query);
     let search = stepped.search;
     let ending = stepped.ending;

@@ -9,7 +9,7 @@ use route::relax::Fixings;
 ghost use mathlib.Core.Path.{_≡_};
 ghost use mathlib.Core.List.{head?};
 ghost use Prim.Native.Nat.{ℕ, _≤_, _<_};
-ghost use lib.ListN.{getD};
+ghost use lib.ListN.{length, getD};
 ghost use Rattle.plan.specs.Plan.{planOf, named, ruleAt};
 ghost use Rattle.plan.specs.Reading.{Accepted, IsRule};
 ghost use Rattle.plan.specs.declared.named.Place.the-variants.{At};
@@ -65,22 +65,21 @@ fn with_rule(rules: [u16; 48], count: usize, mask: u64) -> [u16; 48]
     sums
 }
 
-// The counts of an accepted plan. `places` are those of its named belts (plan::named::named_places). Each rule is read once.
-pub fn rule_counts(p: &[u8], places: &[u8; 2048]) -> Counts
-    requires { ⌜ Accepted (now p) × (now places ≡ namedPlaces (now p)) ⌝ }
+// The counts of an accepted plan. `places` are those of its named belts (plan::named::named_places), of which there are `count`. Each
+// rule is read once.
+pub fn rule_counts(p: &[u8], places: &[u8; 2048], count: usize) -> Counts
+    requires { ⌜ Accepted (now p) × (now places ≡ namedPlaces (now p)) × (count ≡ length (named (planOf (now p)))) ⌝ }
     ensures { λ v. ⌜ v ≡ countsOf (now (p .entry)) ⌝ }
 {
-    let belts = named::named_belts(p);
-    let named = belts.count;
     let mut rules = [0u16; 48];
     let mut rule = read::first_rule(p);
     while rule.0 != 0 {
-        let sums = with_rule(rules, named, in_rule(p, places, rule));
+        let sums = with_rule(rules, count, in_rule(p, places, rule));
         rules = sums;
         rule = read::next_rule(p, rule);
     }
     Counts {
-        named: named,
+        named: count,
         rules: rules,
     }
 }

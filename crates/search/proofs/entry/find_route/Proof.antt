@@ -7,8 +7,11 @@ use Rattle.search.proofs.Replies.{turn-ended, turn-found}
 use Rattle.search.proofs.entry.find_route.Statement.{statement}
 use Rattle.search.proofs.entry.find_route.Tie as tie
 
-named-places-requires : tie.Need-named-places-requires
-named-places-requires c κs = search needs
+named-belts-requires : tie.Need-named-belts-requires
+named-belts-requires c κs = search needs
+
+places-among-requires : tie.Need-places-among-requires
+places-among-requires c κs = search needs
 
 decode-requires : tie.Need-decode-requires
 decode-requires c κs = search needs
@@ -23,14 +26,26 @@ rule-counts-requires : tie.Need-rule-counts-requires
 rule-counts-requires c κs = search needs
 
 run-requires : tie.Need-run-requires
-run-requires c κs = search needs
+run-requires c κs = let start = c .before .before .before .before .before .before .before .before .before .before .before .before .before .before .before .before .before .before .before .before in
+    let accepted = start .pre .0 in
+    let junctions = start .pre .1 in
+    record {
+      accepted = accepted;
+      placed = c .before .before .before .before .before .before .before .before .before .before .before .before .before .before .before .before .places-among .ensures;
+      ended = c .before .before .before .before .before .before .before .before .before .before .before .before .before .before .decode .ensures .0;
+      listed = c .before .before .before .before .before .before .before .before .before .before .before .before .before .before .decode .ensures .1;
+      left = search needs;
+      ruled = search needs;
+      counted = search needs;
+      junctions = junctions;
+    }
 
 enum-told : tie.Need-enum-told
 enum-told c = search needs
 
 -- where the run began
 abbrev begun : tie.After-run → tie.Start
-begun c = c .before .before .before .before .before .before .before .before .before .before .before .before .before .before .before .before .before .before .before .before
+begun c = c .before .before .before .before .before .before .before .before .before .before .before .before .before .before .before .before .before .before .before .before .before
 
 -- where its rules were made
 abbrev ruled : tie.After-run → tie.After-decode2
@@ -40,7 +55,7 @@ write-best-requires : tie.Need-write-best-requires
 write-best-requires c κs =
     let ran = c .before .before .before .before .before .before in
     let start = begun ran in
-    let places = ran .before .before .before .before .before .before .before .before .before .before .before .before .before .before .before .before .before .named-places .ensures in
+    let places = ran .before .before .before .before .before .before .before .before .before .before .before .before .before .before .before .before .before .places-among .ensures in
     (start .pre .0, places, ruled ran .decode2 .ensures, ran .run .ensures .1, start .pre .2)
 
 enum-told-2 : tie.Need-enum-told-2
@@ -97,7 +112,8 @@ pub find-route-spec : {M : Type 1} → statement M
 find-route-spec =
     tie.close
     (tie.spec
-    named-places-requires
+    named-belts-requires
+    places-among-requires
     decode-requires
     exits-requires
     decode-requires-2

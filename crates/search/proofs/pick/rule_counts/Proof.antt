@@ -12,61 +12,56 @@ use Rattle.search.proofs.pick.rule_counts.Statement.{statement}
 use Rattle.search.proofs.pick.rule_counts.Tie as tie
 
 abbrev Inv-loop : tie.InvT-loop
-Inv-loop p places named rules₀ rule₀ rules rule = Tallied p (rule .0) rules
+Inv-loop p places count rules₀ rule₀ rules rule = Tallied p (rule .0) rules
 
 abbrev μ-loop : tie.MeasureT-loop
-μ-loop p places named rules₀ rule₀ rules rule = length (rulesFrom p (rule .0))
-
-named-belts-requires : tie.Need-named-belts-requires Inv-loop μ-loop
-named-belts-requires c κs = c .before .pre .0
+μ-loop p places count rules₀ rule₀ rules rule = length (rulesFrom p (rule .0))
 
 first-rule-requires : tie.Need-first-rule-requires Inv-loop μ-loop
-first-rule-requires c κs = c .before .before .pre .0
+first-rule-requires c κs = c .before .pre .0
 
 loop-holds : tie.Need-loop-holds Inv-loop μ-loop
-loop-holds c = tallied-start (c .before .before .before .pre .0) (c .first-rule .result .0) (c .first-rule .ensures)
+loop-holds c = tallied-start (c .before .before .pre .0) (c .first-rule .result .0) (c .first-rule .ensures)
 
 in-rule-requires : tie.Need-in-rule-requires Inv-loop μ-loop
 in-rule-requires c κs =
     let at = c .before .before in
-    let pre = at .before .before .before .before .pre in
+    let pre = at .before .before .before .pre in
     (pre .0, pre .1, at .loop .inv .is-rule (c .if1 .taken))
 
 with-rule-requires : tie.Need-with-rule-requires Inv-loop μ-loop
 with-rule-requires c κs =
     let at = c .before .before .before in
-    let listed = at .before .before in
-    let ok = listed .before .before .pre .0 in
-    (omega (arith, listed .named-belts .ensures .0, named-few ok), tallied-few ok (at .loop .inv))
+    let pre = at .before .before .before .pre in
+    (omega (arith, pre .2, named-few (pre .0)), tallied-few (pre .0) (at .loop .inv))
 
 next-rule-requires : tie.Need-next-rule-requires Inv-loop μ-loop
 next-rule-requires c κs =
     let turn = c .before .before in
     let at = turn .before .before in
-    (at .before .before .before .before .pre .0, at .loop .inv .is-rule (turn .if1 .taken))
+    (at .before .before .before .pre .0, at .loop .inv .is-rule (turn .if1 .taken))
 
 loop-less : tie.Need-loop-less Inv-loop μ-loop
 loop-less c =
     let turn = c .before .before .before in
     let at = turn .before .before in
-    tallied-shorter (at .before .before .before .before .pre .0) (at .loop .inv) (turn .if1 .taken) _ (c .next-rule .ensures)
+    tallied-shorter (at .before .before .before .pre .0) (at .loop .inv) (turn .if1 .taken) _ (c .next-rule .ensures)
 
 loop-again : tie.Need-loop-again Inv-loop μ-loop
 loop-again c =
     let turn = c .before .before .before in
     let at = turn .before .before in
-    let listed = at .before .before in
-    let pre = listed .before .before .pre in
+    let pre = at .before .before .before .pre in
     let mask = c .before .before .in-rule in
-    let sums = c .before .with-rule .ensures ∙ ap (λ (n : ℕ). withRule (at .loop .rules) n (mask .result)) (listed .named-belts .ensures .0) in
+    let sums = c .before .with-rule .ensures ∙ ap (λ (n : ℕ). withRule (at .loop .rules) n (mask .result)) (pre .2) in
     tallied-next (pre .0) (at .loop .inv) (turn .if1 .taken) (pre .1) (mask .result) (mask .ensures) _ sums _ (c .next-rule .ensures)
 
 returns : tie.Need-returns Inv-loop μ-loop
 returns c =
     let at = c .before .before in
-    let listed = at .before .before in
-    let rules = tallied-end (listed .before .before .pre .0) (at .loop .inv) (c .if1 .left) in
-    λ i. record { named = listed .named-belts .ensures .0 i; rules = rules i }
+    let pre = at .before .before .before .pre in
+    let rules = tallied-end (pre .0) (at .loop .inv) (c .if1 .left) in
+    λ i. record { named = pre .2 i; rules = rules i }
 
 pub rule-counts-spec : {M : Type 1} → statement M
 rule-counts-spec =
@@ -74,7 +69,6 @@ rule-counts-spec =
     (tie.spec
     Inv-loop
     μ-loop
-    named-belts-requires
     first-rule-requires
     loop-holds
     in-rule-requires
