@@ -9,6 +9,7 @@ pub mod Counting
 pub mod Picks
 pub mod Holding
 pub mod Opening
+pub mod Bounds
 pub mod Uniqueness
 pub mod Refusing
 pub mod Answering

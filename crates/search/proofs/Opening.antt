@@ -137,10 +137,10 @@ module _ (b : List ℕ) (q : Query) (budget : ℕ) (v : Search) where
         considered (problemIn b q) taken (record { waiting = stateIn b (popped v) .waiting; opened = n; best = stateIn b v .best })
         (relaxed (planOf b) (q .trip .s) (q .trip .t) taken)
 
-    pub step-goes : (v .opened ≡ budget → ⊥) → (w : Search)
+    pub step-goes : (v .opened ≡ budget → ⊥) → (w : Search) (k : ℕ)
         → stateIn b w ≡ considered (problemIn b q) taken (stateIn b (popped v)) (relaxed (planOf b) (q .trip .s) (q .trip .t) taken)
-        → turnIn b (record { search = w; ending = GoesOn }) ≡ step (problemIn b q) budget (stateIn b v)
-    step-goes d w e =
+        → turnIn b (record { search = w; ending = GoesOn; bound = k }) ≡ step (problemIn b q) budget (stateIn b v)
+    step-goes d w k e =
         let one : v .opened + 1 ≡ suc (v .opened) = omega arith in
         ap (λ (st : State). record { state = st; ending = GoesOn }) (e ∙ ap opened-to one)
         ∙ by-budget false (ne-eqb (v .opened) budget d)

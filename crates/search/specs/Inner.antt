@@ -12,6 +12,7 @@
 --   childAt f q t         the masks f with the place q required, too, or else forbidden
 --   branchAt q            what becomes of a subproblem that is branched on the belt at the place q: where there is none, it is dropped
 --   testedAs q o          the same where its relaxed route is tested first: o is the setting that works, if one does
+--   relaxedIn b q f       the answer that stands for the relaxed route of the masks f for the trip q
 --   betterIn b w t r      the answer w has a relaxed route, and it improves on the best r, where t says whether one is held
 --   judgedIn b q f r t    what becomes of the masks f with the relaxed route r, where t says whether that improves on the best
 -- Answers:
@@ -32,9 +33,11 @@ use Rattle.plan.specs.declared.read.Literal.the-variants.{OfBelt, OfMode}
 use Rattle.plan.specs.Lists.{counted, keep, upto}
 use Rattle.plan.specs.Plan.{planOf, named}
 use Rattle.route.specs.declared.path.Route.{Route}
+use Rattle.route.specs.declared.path.Trip.{Trip}
 use Rattle.route.specs.declared.relax.Fixings.{Fixings}
 use Rattle.route.specs.declared.relax.Relaxed.{Relaxed}
-use Rattle.route.specs.Values.{idsOf, Known, routeIn, inMask, withPlace, subproblemIn, maskOf}
+use Rattle.route.specs.Subproblems.{relaxed}
+use Rattle.route.specs.Values.{idsOf, Known, routeIn, inMask, withPlace, subproblemIn, maskOf, relaxedAs}
 use Rattle.search.specs.declared.query.Query.{Query}
 use Rattle.search.specs.declared.state.Search.{Search}
 use Rattle.search.specs.declared.state.Ending.{Ending}
@@ -91,6 +94,9 @@ branchAt Unnamed = Drop
 abbrev pub testedAs : Place → Option ℕ → Judged
 testedAs q (some σ) = Best
 testedAs q none = branchAt q
+
+abbrev pub relaxedIn : List ℕ → Trip → Fixings → Relaxed
+relaxedIn b q f = relaxedAs b (relaxed (planOf b) (q .s) (q .t) (subproblemIn b f))
 
 abbrev pub betterIn : List ℕ → Relaxed → Bool → Route → Bool
 betterIn b w t best = w .found && improves (routeIn b (w .route)) (bestIn b t best)

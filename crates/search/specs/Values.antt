@@ -8,6 +8,8 @@
 --                       stands last in the array
 --   bestIn b t r        the best route of the plan b that a Search holds, if t says that it holds one; stateIn b v: the state that it stands for
 --   turnIn b v          what a step handed back stands for
+--   boundOf o           what a route may cost at most to improve on the best, o: as much as that, or any cost of a route where none is held;
+--                       boundIn b v: the same of the best that a Search holds
 --   Deep p xs           of the waiting subproblems each fixes at least as many named belts as there are older ones
 --   Valid b v           a Search of the plan b: its masks are over the named belts, each waiting subproblem fixes enough of them, the best
 --                       is of belts of the plan, and what is not in use is 0. So equal states are equal values (Claims.antt)
@@ -31,7 +33,7 @@ use Rattle.plan.specs.Adjacency.{arcsOf, endsOf}
 use Rattle.plan.specs.Reading.{Accepted}
 use Rattle.route.specs.declared.path.Route.{Route}
 use Rattle.route.specs.declared.relax.Fixings.{Fixings}
-use Rattle.route.specs.Routes.{wrongEnds}
+use Rattle.route.specs.Routes.{wrongEnds, cost, costLimit}
 use Rattle.route.specs.Subproblems.{Subproblem}
 use Rattle.route.specs.Values.{idsOf, packed, Known, routeIn, OfNamed, subproblemIn, namedPlaces, exitsOf, clausesOf}
 use Rattle.search.specs.declared.query.Query.{Query}
@@ -75,6 +77,13 @@ stateIn b v = record { waiting = waitingIn b (v .waiting) (v .count); opened = v
 
 abbrev pub turnIn : List ℕ → Stepped → Turn
 turnIn b v = record { state = stateIn b (v .search); ending = v .ending }
+
+abbrev pub boundOf : Option (List Belt) → ℕ
+boundOf none = costLimit - 1
+boundOf (some r) = cost r
+
+abbrev pub boundIn : List ℕ → Search → ℕ
+boundIn b v = boundOf (bestIn b (v .found) (v .best))
 
 abbrev pub Deep : Plan → List Subproblem → Type 0
 Deep p [] = Unit {0}

@@ -4,13 +4,14 @@ use crate::query::Query;
 use crate::state;
 use crate::state::Ending;
 use crate::state::Stepped;
+use route::relax;
 ghost use mathlib.Core.Path.{_≡_};
 ghost use Rattle.search.specs.Search.{run};
 ghost use Rattle.search.specs.Answers.{problemIn};
 ghost use Rattle.search.specs.Values.{turnIn, Valid, Ready};
 
 // Steps until one ends. What is lent is that of the plan, as for a step. What a step hands back stays whole: to take the search out of it would
-// copy it.
+// copy it. The steps share the room that they work in.
 pub fn run(
     p: &[u8],
     places: &[u8; 2048],
@@ -24,17 +25,28 @@ pub fn run(
     requires { ⌜ Ready (now p) (now places) (now ends) (now arcs) (now exits) (now clauses) counts query ⌝ }
     ensures { λ v. ⌜ (turnIn (now (p .entry)) v ≡ run (problemIn (now (p .entry)) query) (query .budget)) × Valid (now (p .entry)) (v .search) ⌝ }
 {
+    let mut ways = [0u64; 257];
     let mut stepped = Stepped {
         search: state::begin(),
         ending: Ending::GoesOn,
+        bound: relax::UNBOUNDED,
     };
     loop {
         let ending = stepped.ending;
         match ending {
             Ending::GoesOn => {
-                stepped = stepped
-                    .search
-                    .step(p, places, ends, arcs, exits, clauses, counts, query);
+                stepped = stepped.search.step(
+                    p,
+                    places,
+                    ends,
+                    arcs,
+                    exits,
+                    clauses,
+                    counts,
+                    query,
+                    stepped.bound,
+                    &mut ways,
+                );
             }
             Ending::Found => return stepped,
             Ending::Nothing => return stepped,

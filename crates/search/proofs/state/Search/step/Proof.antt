@@ -1,29 +1,32 @@
--- `Search::step` meets its contract: the six steps, on what the Search stands for (Holding, Opening). Assumes nothing.
-use mathlib.Core.Path.{_≡_, sym, _∙_, ap, subst}
+-- `Search::step` meets its contract: the six steps, on what the Search stands for (Holding, Opening, Bounds). Assumes nothing.
+use mathlib.Core.Path.{_≡_, refl, sym, _∙_, ap, subst}
 use mathlib.Core.Logic.{⊎-elim}
-use mathlib.Core.Bool.{true}
-use Prim.Native.Nat.{_+_, _-_, _≤_, _<_}
+use mathlib.Core.Bool.{Bool, true}
+use Prim.Native.Nat.{ℕ, _+_, _-_, _≤_, _<_}
 use lib.ListN.{set, length-set}
 use native.Mathlib.Omega.{arith}
 use borrow.Author.Needs.{needs}
 use borrow.Author.Tests.{eqb-true, eqb-false}
 use Rattle.plan.specs.Plan.{planOf}
-use Rattle.plan.proofs.Lists.{both}
+use Rattle.plan.specs.Reading.{Bytes}
+use Rattle.plan.proofs.Lists.{never}
 use Rattle.route.specs.declared.path.Route.{Route}
+use Rattle.route.specs.declared.relax.Relaxed.{Relaxed}
+use Rattle.route.specs.Routes.{cost, costLimit}
 use Rattle.route.specs.Subproblems.{relaxed}
-use Rattle.route.specs.Values.{idsOf, OfNamed, subproblemIn}
+use Rattle.route.specs.Values.{idsOf, routeIn, OfNamed, subproblemIn}
 use Rattle.route.proofs.Holding.{known-low, mask-named}
 use Rattle.search.specs.declared.state.Search.{Search}
 use Rattle.search.specs.declared.state.Ending.{Ending}
 use Rattle.search.specs.declared.state.Ending.the-variants.{GoesOn}
 use Rattle.search.specs.declared.state.Judged.{Judged}
-use Rattle.search.specs.declared.state.Judged.the-variants.{Best}
 use Rattle.search.specs.Search.{considered}
 use Rattle.search.specs.Answers.{problemIn}
-use Rattle.search.specs.Values.{noFixings, stateIn, turnIn, Valid, stepIn}
-use Rattle.search.specs.Inner.{OnRoute, judgedIn}
+use Rattle.search.specs.Values.{noFixings, stateIn, turnIn, boundIn, Valid, stepIn}
+use Rattle.search.specs.Inner.{OnRoute, relaxedIn, betterIn, judgedIn}
 use Rattle.search.proofs.Holding.{places, settledTo, Room, Taken, Settles, newestOf, popped, count-few, popped-taken}
 use Rattle.search.proofs.Opening.{answered, judged-settles, step-empty, step-spent, step-goes}
+use Rattle.search.proofs.Bounds.{bound-low, Tells, tells, best-better}
 use Rattle.search.proofs.state.Search.step.Statement.{statement}
 use Rattle.search.proofs.state.Search.step.Tie as tie
 
@@ -42,6 +45,8 @@ returns c =
           (λ w. step-spent b q (q .budget) v (w .0 .left) (eqb-true (v .opened) (q .budget) (w .2 .taken)))
           (c .before .if1 .came),
       start .pre .1,
+      start .pre .3,
+      refl,
     )
 
 sub-top : tie.Need-sub-top
@@ -87,41 +92,99 @@ taken : (c : tie.Else2) → Taken (start c .args .p .now) (popped (now c)) (newe
 taken c =
     popped-taken (start c .pre .0 .accepted) (now c) (places (now c) (start c .good .0 .1 .1 .0 .1 .0 .1)) (start c .pre .1) (c .before .before .if1 .left)
 
-relaxed-route-requires : tie.Need-relaxed-route-requires
-relaxed-route-requires c κs =
-    let goes = c .before .before in
-    let ready = start goes .pre .0 in
-    (ready .accepted, ready .placed, ready .ended, ready .listed, ready .left, ready .junctions, taken goes .required)
+bytes : (c : tie.Else2) → Bytes (start c .args .p .now)
+bytes c = λ i. c .before .before .before .shared-slice-known .given i .fits
 
--- a relaxed route that is there is of belts of the plan, and the mask has its named ones
-on : (c : tie.After-relaxed-route) → c .relaxed-route .result .found ≡ true
-    → OnRoute (start (c .before .before .before) .args .p .now) (c .relaxed-route .result .named) (c .relaxed-route .result .route)
-on c h =
-    let from = c .before .before .before in
+summarize-requires : tie.Need-summarize-requires
+summarize-requires c κs =
+    let goes = c .before .before .before .before in
+    let pre = start goes .pre in
+    let ready = pre .0 in
+    let low = bound-low (ready .accepted) (bytes goes) (now goes .found) (now goes .best) (pre .1 .known) in (
+      ready .accepted,
+      ready .placed,
+      ready .ended,
+      ready .listed,
+      ready .left,
+      ready .junctions,
+      taken goes .required,
+      subst (λ (k : ℕ). k < costLimit) (sym (pre .3)) low,
+      pre .4,
+    )
+
+-- the relaxed route of the newest, as it is answered
+abbrev answer : tie.Else2 → Relaxed
+answer c = relaxedIn (start c .args .p .now) (start c .args .query .trip) (newestOf (now c))
+
+-- what the summary tells of it
+abbrev opened : tie.After-summarize → tie.Else2
+opened c = c .before .before .before .before .before
+
+told : (c : tie.After-summarize) → let goes = opened c in
+    Tells (start goes .args .p .now) (answer goes) (now goes .found) (now goes .best) (start goes .args .bound) (c .summarize .result)
+told c =
+    let goes = opened c in
+    let pre = start goes .pre in
+    let ready = pre .0 in
+    tells (ready .accepted) (bytes goes) (start goes .args .query .trip) (ready .junctions) (newestOf (now goes)) (now goes .found) (now goes .best)
+    (pre .1 .known) (start goes .args .bound) (pre .3) (c .summarize .result) (c .summarize .ensures .0)
+
+precedes-requires : tie.Need-precedes-requires
+precedes-requires c κs =
+    let asked = c .before .before .before .before .before in
+    let goes = opened asked in
+    let pre = start goes .pre in
+    let ready = pre .0 in (
+      ready .accepted,
+      ready .placed,
+      ready .ended,
+      ready .listed,
+      ready .left,
+      ready .junctions,
+      taken goes .required,
+      told asked .equal (eqb-true (asked .summarize .result .cost) (start goes .args .bound) (c .before .if4 .taken)),
+      pre .1 .known,
+    )
+
+-- where the tests have met: whether its relaxed route improves on the best
+abbrev met : tie.Joined3-2 → tie.Else2
+met c = opened (c .before .before)
+
+better-is : (c : tie.Joined3-2) → c .if3 .better ≡ betterIn (start (met c) .args .p .now) (answer (met c)) (now (met c) .found) (now (met c) .best)
+better-is c =
+    let asked = c .before .before in
+    let from = met c in
+    let better : Bool → Bool = λ t. betterIn (start from .args .p .now) (answer from) t (now from .best) in
+    ⊎-elim
+    (λ w. w .5 ∙ w .4 .ensures ∙ sym (ap better (w .0 .taken)))
+    (λ w. w .1 ∙ told asked .unequal
+    (⊎-elim
+    (λ u h. eqb-false (asked .summarize .result .cost) (start from .args .bound) (u .2 .left))
+    (λ u h e. absurd (never h (u .left)))
+    (w .0 .came)))
+    (c .if3 .came)
+
+-- a relaxed route that improves on the best is of belts of the plan, and the mask has its named ones
+better-on : (c : tie.Joined3-2) → c .if3 .better ≡ true
+    → OnRoute (start (met c) .args .p .now) (c .before .before .summarize .result .named) (answer (met c) .route)
+better-on c h =
+    let from = met c in
+    let b = start from .args .p .now in
     let ready = start from .pre .0 in
     let trip = start from .args .query .trip in
-    answered (ready .accepted) (λ i. from .before .before .before .shared-slice-known .given i .fits) (trip .s) (trip .t) (ready .junctions)
-    (subproblemIn (start from .args .p .now) (newestOf (now from))) (c .relaxed-route .result) (c .relaxed-route .ensures) h .0
-
-improves-requires : tie.Need-improves-requires
-improves-requires c κs =
-    let pre = start (c .before .before .before .before) .pre in
-    (pre .0 .accepted, λ h. on (c .before) h .known, pre .1 .known)
-
--- so it is of one that improves on the best
-better-on : (c : tie.After-improves) → c .improves .result ≡ true
-    → let asked = c .before .before in OnRoute (start (asked .before .before .before) .args .p .now) (asked .relaxed-route .result .named) (asked .relaxed-route .result .route)
-better-on c h = on (c .before .before) (both _ _ (sym (c .improves .ensures) ∙ h) .0)
+    let (found, named, costs) = told (c .before .before) .better (sym (better-is c) ∙ h) in
+    subst (λ (m : ℕ). OnRoute b m (answer from .route)) (sym named)
+    (answered (ready .accepted) (bytes from) (trip .s) (trip .t) (ready .junctions) (subproblemIn b (newestOf (now from))) (answer from) refl found .0)
 
 judge-requires : tie.Need-judge-requires
 judge-requires c κs =
-    let asked = c .before .before in
-    let from = start (asked .before .before .before) in
-    let ready = from .pre .0 in (
+    let from = start (met c) in
+    let ready = from .pre .0 in
+    let route = answer (met c) .route in (
       ready .accepted,
       ready .ruled,
       ready .counted,
-      λ h. let there = better-on c h in subst (OfNamed (from .args .p .now)) (sym (there .mask)) (mask-named (ready .accepted) (idsOf (asked .relaxed-route .result .route)) (known-low (ready .accepted) (asked .relaxed-route .result .route) (there .known))),
+      λ h. let there = better-on c h in subst (OfNamed (from .args .p .now)) (sym (there .mask)) (mask-named (ready .accepted) (idsOf route) (known-low (ready .accepted) route (there .known))),
     )
 
 enum-told : tie.Need-enum-told
@@ -135,10 +198,10 @@ enum-known-judged c = search needs
 
 -- what is to be done with it
 abbrev goes : tie.After-judge → tie.Else2
-goes c = c .before .before .before .before .before .before
+goes c = met (c .before)
 
 abbrev route : tie.After-judge → Route
-route c = c .before .before .before .relaxed-route .result .route
+route c = answer (goes c) .route
 
 -- the Search once that is done
 abbrev settled : tie.After-judge → Judged → Search
@@ -154,26 +217,37 @@ settles c =
     let args = start from .args in
     let ready = start from .pre .0 in
     let one = newestOf (now from) in
-    let asked = c .before .before .before .relaxed-route in
     let size = length-set (now from .waiting) (now from .count - 1) noFixings ∙ places (now from) (start from .good .0 .1 .1 .0 .1 .0 .1) in
     let state = considered (problemIn (args .p .now) (args .query)) (subproblemIn (args .p .now) one) (stateIn (args .p .now) (popped (now from)))
     (relaxed (planOf (args .p .now)) (args .query .trip .s) (args .query .trip .t) (subproblemIn (args .p .now) one)) in
-    let is = c .judge .ensures (route c) (better-on (c .before)) ∙ ap (judgedIn (args .p .now) (args .query) one (route c)) (c .before .improves .ensures) in
+    let is = c .judge .ensures (route c) (better-on (c .before)) ∙ ap (judgedIn (args .p .now) (args .query) one (route c)) (better-is (c .before)) in
     subst (Settles (args .p .now) (popped (now from)) one (args .query) (route c) state) (sym is)
-    (judged-settles (ready .accepted) (λ i. from .before .before .before .shared-slice-known .given i .fits) (popped (now from)) size one (taken from)
-    (args .query) (ready .junctions) (asked .result) (asked .ensures))
+    (judged-settles (ready .accepted) (bytes from) (popped (now from)) size one (taken from) (args .query) (ready .junctions) (answer from) refl)
 
-done : (c : tie.After-judge) (w : Search) → w ≡ settled c (c .judge .result)
-    → let args = start (goes c) .args in
-    (turnIn (args .p .now) (record { search = w; ending = GoesOn }) ≡ stepIn (args .p .now) (args .query) (now (goes c))) × Valid (args .p .now) w
-done c w e =
+-- a step that goes on hands back the Search w with the bound k
+abbrev Done : tie.After-judge → Search → ℕ → Type 0
+Done c w k =
+    let args = start (goes c) .args in
+    (turnIn (args .p .now) (record { search = w; ending = GoesOn; bound = k }) ≡ stepIn (args .p .now) (args .query) (now (goes c)))
+    × Valid (args .p .now) w
+    × (k ≡ boundIn (args .p .now) w)
+
+done : (c : tie.After-judge) (w : Search) (k : ℕ) → w ≡ settled c (c .judge .result) → k ≡ boundIn (start (goes c) .args .p .now) w → Done c w k
+done c w k e bound =
     let from = goes c in
     let b = start from .args .p .now in
     let q = start from .args .query in
     let all = settles c in (
-      step-goes b q (q .budget) (now from) (from .before .before .if1 .left) (unspent from) w (ap (stateIn b) e ∙ all .state),
+      step-goes b q (q .budget) (now from) (from .before .before .if1 .left) (unspent from) w k (ap (stateIn b) e ∙ all .state),
       subst (Valid b) (sym e) (all .valid),
+      bound,
     )
+
+relaxed-route-requires : tie.Need-relaxed-route-requires
+relaxed-route-requires c κs =
+    let from = goes (c .before .before) in
+    let ready = start from .pre .0 in
+    (ready .accepted, ready .placed, ready .ended, ready .listed, ready .left, ready .junctions, taken from .required)
 
 -- there is room for both children
 room : (c : tie.After-judged) → (now (goes (c .before .before)) .count - 1 ≤ 47) × (c .judged .given .0 .0 < 64)
@@ -213,17 +287,46 @@ popped-is c =
     let v = now (c .before .before) in
     λ i. record { waiting = set (v .waiting) (v .count - 1) (c .free .ensures i); count = v .count - 1; opened = v .opened + 1; best = v .best; found = v .found }
 
+-- it becomes the best, and its cost the bound, or both stay
+abbrev summarized : tie.After-judge → tie.After-summarize
+summarized c = c .before .before .before
+
+abbrev freed : tie.After-judge → tie.After-free
+freed c = summarized c .before .before .before
+
 returns-2 : tie.Need-returns-2
 returns-2 c =
     let judged = c .before .before in
-    done judged _ (popped-is (judged .before .before .before .before) ∙ sym (ap (settled judged) (c .enum-told .given .1)))
+    let (turn, valid, bound) =
+    done judged _ _ (popped-is (freed judged) ∙ sym (ap (settled judged) (c .enum-told .given .1))) (start (goes judged) .pre .3) in
+    (turn, valid, bound, summarized judged .summarize .ensures .1)
 
 returns-3 : tie.Need-returns-3
 returns-3 c =
-    let told = c .before in
-    let judged = told .before .before in
-    let hold : Search → Search = λ v. settledTo (newestOf (now (goes judged))) (start (goes judged) .args .query .order) (route judged) v Best in
-    done judged _ (ap hold (popped-is (judged .before .before .before .before)) ∙ sym (ap (settled judged) (told .enum-told2 .given .1)))
+    let is-best = c .before .before in
+    let judged = is-best .before .before in
+    let from = goes judged in
+    let v = now from in
+    let b = start from .args .p .now in
+    let q = start from .args .query in
+    let free = freed judged .free .ensures in
+    let asked = c .before .relaxed-route .ensures in
+    let better =
+    best-better b q (newestOf v) (route judged) (judged .before .if3 .better)
+    (sym (judged .judge .ensures (route judged) (better-on (judged .before))) ∙ is-best .enum-told2 .given .1) in
+    let costs = told (summarized judged) .better (sym (better-is (judged .before)) ∙ better) .2 in
+    let (turn, valid, bound) =
+    done judged _ _
+    ((λ i. record {
+      waiting = set (v .waiting) (v .count - 1) (free i);
+      count = v .count - 1;
+      opened = v .opened + 1;
+      best = asked i .route;
+      found = true;
+    })
+    ∙ sym (ap (settled judged) (is-best .enum-told2 .given .1)))
+    (costs ∙ sym (ap (λ (w : Relaxed). cost (routeIn b (w .route))) asked)) in
+    (turn, valid, bound, summarized judged .summarize .ensures .1)
 
 returns-4 : tie.Need-returns-4
 returns-4 c =
@@ -234,8 +337,9 @@ returns-4 c =
     let o = start from .args .query .order in
     let older = c .before .before .child .ensures in
     let newer = c .child2 .ensures in
-    let free = judged .before .before .before .before .free .ensures in
-    done judged _
+    let free = freed judged .free .ensures in
+    let (turn, valid, bound) =
+    done judged _ _
     ((λ i. record {
       waiting = set (set (set (v .waiting) (v .count - 1) (free i)) (v .count - 1) (older i)) (v .count - 1 + 1) (newer i);
       count = v .count - 1 + 2;
@@ -244,6 +348,8 @@ returns-4 c =
       found = v .found;
     })
     ∙ sym (ap (settled judged) (branches c .judged .given .1)))
+    (start from .pre .3) in
+    (turn, valid, bound, summarized judged .summarize .ensures .1)
 
 pub step-spec : {M : Type 1} → statement M
 step-spec =
@@ -258,11 +364,12 @@ step-spec =
     mul-none
     element-set-from-none
     add-self
-    relaxed-route-requires
-    improves-requires
+    summarize-requires
+    precedes-requires
     judge-requires
     enum-told
     enum-told-2
+    relaxed-route-requires
     enum-known-judged
     child-requires
     child-requires-2
