@@ -201,9 +201,11 @@ impl Search {
             };
         }
         let top = self.count - 1;
-        let fixings = self.waiting[top];
+        // An array of its own: of stores into the search at an index the compiler can't tell that they leave the best route as it is.
+        let mut waiting = self.waiting;
+        let fixings = waiting[top];
         let none = free();
-        self.waiting[top] = none;
+        waiting[top] = none;
         self.count = top;
         self.opened += 1;
         let trip = query.trip;
@@ -225,11 +227,12 @@ impl Search {
             Judged::Branch(k) => {
                 let older = child(fixings, k, query.order == 0);
                 let newer = child(fixings, k, query.order != 0);
-                self.waiting[top] = older;
-                self.waiting[top + 1] = newer;
+                waiting[top] = older;
+                waiting[top + 1] = newer;
                 self.count = top + 2;
             }
         }
+        self.waiting = waiting;
         Stepped {
             search: self,
             ending: Ending::GoesOn,

@@ -3,6 +3,7 @@ use mathlib.Core.Path.{_≡_, refl, sym, _∙_, ap, subst}
 use mathlib.Core.Logic.{⊎-elim}
 use mathlib.Core.Bool.{Bool, true}
 use Prim.Native.Nat.{ℕ, _+_, _-_, _≤_, _<_}
+use mathlib.Core.List.{List}
 use lib.ListN.{set, length-set}
 use native.Mathlib.Omega.{arith}
 use borrow.Author.Needs.{needs}
@@ -11,6 +12,7 @@ use Rattle.plan.specs.Plan.{planOf}
 use Rattle.plan.specs.Reading.{Bytes}
 use Rattle.plan.proofs.Lists.{never}
 use Rattle.route.specs.declared.path.Route.{Route}
+use Rattle.route.specs.declared.relax.Fixings.{Fixings}
 use Rattle.route.specs.declared.relax.Relaxed.{Relaxed}
 use Rattle.route.specs.Routes.{cost, costLimit}
 use Rattle.route.specs.Subproblems.{relaxed}
@@ -35,14 +37,14 @@ ended-requires c κs = search needs
 
 returns : tie.Need-returns
 returns c =
-    let start = c .before .before .before in
+    let start = c .before .before .before .before in
     let b = start .args .p .now in
     let q = start .args .query in
-    let v = start .args .t1 in (
+    let v = start .args .self in (
       ap (λ (e : Ending). record { state = stateIn b v; ending = e }) (c .ended .ensures)
           ∙ ⊎-elim
           (λ w. step-empty b q (q .budget) v (w .taken))
-          (λ w. step-spent b q (q .budget) v (w .0 .left) (eqb-true (v .opened) (q .budget) (w .2 .taken)))
+          (λ w. step-spent b q (q .budget) v (w .0 .left) (eqb-true (v .opened) (q .budget) (w .3 .taken)))
           (c .before .if1 .came),
       start .pre .1,
       start .pre .3,
@@ -54,50 +56,50 @@ sub-top c = search needs
 
 -- one waits, and the budget is not spent
 abbrev start : tie.Else2 → tie.Start
-start c = c .before .before .before .before
+start c = c .before .before .before .before .before .before
 
 abbrev now : tie.Else2 → Search
-now c = start c .args .t1
+now c = start c .args .self
 
 -- the newest is one of 49
 below : (c : tie.Else2) → now c .count - 1 < 49
 below c = omega (arith, count-few (start c .pre .0 .accepted) (start c .pre .1))
 
 mul-fixings : tie.Need-mul-fixings
-mul-fixings c = record { fits = omega (arith, below c) }
+mul-fixings c = record { fits = omega (arith, below (c .before .before)) }
 
-element-copy-out-fixings : tie.Need-element-copy-out-fixings
-element-copy-out-fixings c = below c
+array-copy-out-fixings : tie.Need-array-copy-out-fixings
+array-copy-out-fixings c = below (c .before .before)
 
 free-requires : tie.Need-free-requires
 free-requires c κs = search needs
 
-mul-none : tie.Need-mul-none
-mul-none c = record { fits = omega (arith, below (c .before .before)) }
+mul-waiting : tie.Need-mul-waiting
+mul-waiting c = record { fits = omega (arith, below (c .before .before .before .before)) }
 
-element-set-from-none : tie.Need-element-set-from-none
-element-set-from-none c = below (c .before .before)
+array-set-from-waiting : tie.Need-array-set-from-waiting
+array-set-from-waiting c = below (c .before .before .before .before)
 
 unspent : (c : tie.Else2) → now c .opened ≡ start c .args .query .budget → ⊥
 unspent c = eqb-false (now c .opened) (start c .args .query .budget) (c .if2 .left)
 
 add-self : tie.Need-add-self
 add-self c =
-    let goes = c .before .before in
+    let goes = c .before .before .before .before .before in
     let up = start goes .pre .2 in
-    record { fits = omega (arith, unspent goes, goes .before .struct-known .given) }
+    record { fits = omega (arith, unspent goes, goes .before .struct-known3 .given) }
 
 -- the newest is taken
 taken : (c : tie.Else2) → Taken (start c .args .p .now) (popped (now c)) (newestOf (now c))
 taken c =
-    popped-taken (start c .pre .0 .accepted) (now c) (places (now c) (start c .good .0 .1 .1 .0 .1 .0 .1)) (start c .pre .1) (c .before .before .if1 .left)
+    popped-taken (start c .pre .0 .accepted) (now c) (places (now c) (start c .good .0 .1 .1 .0 .1 .0 .1)) (start c .pre .1) (c .before .before .before .if1 .left)
 
 bytes : (c : tie.Else2) → Bytes (start c .args .p .now)
-bytes c = λ i. c .before .before .before .shared-slice-known .given i .fits
+bytes c = λ i. c .before .before .before .before .before .shared-slice-known .given i .fits
 
 summarize-requires : tie.Need-summarize-requires
 summarize-requires c κs =
-    let goes = c .before .before .before .before in
+    let goes = c .before .before .before .before .before .before .before in
     let pre = start goes .pre in
     let ready = pre .0 in
     let low = bound-low (ready .accepted) (bytes goes) (now goes .found) (now goes .best) (pre .1 .known) in (
@@ -118,7 +120,7 @@ answer c = relaxedIn (start c .args .p .now) (start c .args .query .trip) (newes
 
 -- what the summary tells of it
 abbrev opened : tie.After-summarize → tie.Else2
-opened c = c .before .before .before .before .before
+opened c = c .before .before .before .before .before .before .before .before
 
 told : (c : tie.After-summarize) → let goes = opened c in
     Tells (start goes .args .p .now) (answer goes) (now goes .found) (now goes .best) (start goes .args .bound) (c .summarize .result)
@@ -131,7 +133,7 @@ told c =
 
 precedes-requires : tie.Need-precedes-requires
 precedes-requires c κs =
-    let asked = c .before .before .before .before .before in
+    let asked = c .before .before .before .before in
     let goes = opened asked in
     let pre = start goes .pre in
     let ready = pre .0 in (
@@ -142,7 +144,7 @@ precedes-requires c κs =
       ready .left,
       ready .junctions,
       taken goes .required,
-      told asked .equal (eqb-true (asked .summarize .result .cost) (start goes .args .bound) (c .before .if4 .taken)),
+      told asked .equal (eqb-true (asked .summarize .result .cost) (start goes .args .bound) (c .if4 .taken)),
       pre .1 .known,
     )
 
@@ -156,7 +158,7 @@ better-is c =
     let from = met c in
     let better : Bool → Bool = λ t. betterIn (start from .args .p .now) (answer from) t (now from .best) in
     ⊎-elim
-    (λ w. w .5 ∙ w .4 .ensures ∙ sym (ap better (w .0 .taken)))
+    (λ w. w .4 ∙ w .3 .ensures ∙ sym (ap better (w .0 .taken)))
     (λ w. w .1 ∙ told asked .unequal
     (⊎-elim
     (λ u h. eqb-false (asked .summarize .result .cost) (start from .args .bound) (u .2 .left))
@@ -238,7 +240,7 @@ done c w k e bound =
     let b = start from .args .p .now in
     let q = start from .args .query in
     let all = settles c in (
-      step-goes b q (q .budget) (now from) (from .before .before .if1 .left) (unspent from) w k (ap (stateIn b) e ∙ all .state),
+      step-goes b q (q .budget) (now from) (from .before .before .before .if1 .left) (unspent from) w k (ap (stateIn b) e ∙ all .state),
       subst (Valid b) (sym e) (all .valid),
       bound,
     )
@@ -262,29 +264,29 @@ child-requires-2 c κs = room (c .before .before .before .before) .1
 abbrev branches : tie.After-child2 → tie.After-judged
 branches c = c .before .before .before .before .before
 
-mul-older : tie.Need-mul-older
-mul-older c = record { fits = omega (arith, room (branches c) .0) }
+mul-waiting-2 : tie.Need-mul-waiting-2
+mul-waiting-2 c = record { fits = omega (arith, room (branches c) .0) }
 
-element-set-from-older : tie.Need-element-set-from-older
-element-set-from-older c = omega (arith, room (branches c) .0)
+array-set-from-waiting-2 : tie.Need-array-set-from-waiting-2
+array-set-from-waiting-2 c = omega (arith, room (branches c) .0)
 
-add-newer : tie.Need-add-newer
-add-newer c = record { fits = omega (arith, room (branches c) .0) }
+add-waiting : tie.Need-add-waiting
+add-waiting c = record { fits = omega (arith, room (branches c) .0) }
 
-mul-newer : tie.Need-mul-newer
-mul-newer c = record { fits = omega (arith, room (branches c) .0) }
+mul-waiting-3 : tie.Need-mul-waiting-3
+mul-waiting-3 c = record { fits = omega (arith, room (branches c) .0) }
 
-element-set-from-newer : tie.Need-element-set-from-newer
-element-set-from-newer c = omega (arith, room (branches c) .0)
+array-set-from-waiting-3 : tie.Need-array-set-from-waiting-3
+array-set-from-waiting-3 c = omega (arith, room (branches c) .0)
 
 add-self-2 : tie.Need-add-self-2
 add-self-2 c = record { fits = omega (arith, room (branches c) .0) }
 
 -- the newest is taken off
-popped-is : (c : tie.After-free) → let v = now (c .before .before) in
+popped-is : (c : tie.After-free) → let v = now (c .before .before .before .before) in
     record { waiting = set (v .waiting) (v .count - 1) (c .free .result); count = v .count - 1; opened = v .opened + 1; best = v .best; found = v .found } ≡ popped v
 popped-is c =
-    let v = now (c .before .before) in
+    let v = now (c .before .before .before .before) in
     λ i. record { waiting = set (v .waiting) (v .count - 1) (c .free .ensures i); count = v .count - 1; opened = v .opened + 1; best = v .best; found = v .found }
 
 -- it becomes the best, and its cost the bound, or both stay
@@ -292,63 +294,60 @@ abbrev summarized : tie.After-judge → tie.After-summarize
 summarized c = c .before .before .before
 
 abbrev freed : tie.After-judge → tie.After-free
-freed c = summarized c .before .before .before
+freed c = summarized c .before .before .before .before
+
+-- where the arms have met: the Search v with the subproblems ws waiting
+abbrev with-waiting : Search → List Fixings → Search
+with-waiting v ws = record { waiting = ws; count = v .count; opened = v .opened; best = v .best; found = v .found }
 
 returns-2 : tie.Need-returns-2
 returns-2 c =
-    let judged = c .before .before in
-    let (turn, valid, bound) =
-    done judged _ _ (popped-is (freed judged) ∙ sym (ap (settled judged) (c .enum-told .given .1))) (start (goes judged) .pre .3) in
-    (turn, valid, bound, summarized judged .summarize .ensures .1)
-
-returns-3 : tie.Need-returns-3
-returns-3 c =
-    let is-best = c .before .before in
-    let judged = is-best .before .before in
+    let judged = c .before in
     let from = goes judged in
     let v = now from in
     let b = start from .args .p .now in
     let q = start from .args .query in
     let free = freed judged .free .ensures in
-    let asked = c .before .relaxed-route .ensures in
+    let same = start from .pre .3 in
+    let ends = done judged (with-waiting (c .match .self) (c .match .waiting)) (c .match .bound) in
+    let (turn, valid, bound) =
+    ⊎-elim
+    (λ w.
+    ends ((λ i. with-waiting (w .2 i) (w .4 i)) ∙ popped-is (freed judged) ∙ sym (ap (settled judged) (w .1 .given .1)))
+    (w .3 ∙ same ∙ sym (ap (boundIn b) (w .2))))
+    (⊎-elim
+    (λ w.
+    let asked = w .2 .ensures in
     let better =
     best-better b q (newestOf v) (route judged) (judged .before .if3 .better)
-    (sym (judged .judge .ensures (route judged) (better-on (judged .before))) ∙ is-best .enum-told2 .given .1) in
+    (sym (judged .judge .ensures (route judged) (better-on (judged .before))) ∙ w .1 .given .1) in
     let costs = told (summarized judged) .better (sym (better-is (judged .before)) ∙ better) .2 in
-    let (turn, valid, bound) =
-    done judged _ _
-    ((λ i. record {
+    ends
+    ((λ i. with-waiting (w .4 i) (w .6 i))
+    ∙ (λ i. record {
       waiting = set (v .waiting) (v .count - 1) (free i);
       count = v .count - 1;
       opened = v .opened + 1;
       best = asked i .route;
       found = true;
     })
-    ∙ sym (ap (settled judged) (is-best .enum-told2 .given .1)))
-    (costs ∙ sym (ap (λ (w : Relaxed). cost (routeIn b (w .route))) asked)) in
-    (turn, valid, bound, summarized judged .summarize .ensures .1)
-
-returns-4 : tie.Need-returns-4
-returns-4 c =
-    let judged = branches c .before .before in
-    let from = goes judged in
-    let v = now from in
-    let f = newestOf v in
-    let o = start from .args .query .order in
-    let older = c .before .before .child .ensures in
-    let newer = c .child2 .ensures in
-    let free = freed judged .free .ensures in
-    let (turn, valid, bound) =
-    done judged _ _
-    ((λ i. record {
+    ∙ sym (ap (settled judged) (w .1 .given .1)))
+    (w .5 ∙ costs ∙ sym (ap (λ (r : Relaxed). cost (routeIn b (r .route))) asked) ∙ sym (ap (boundIn b) (w .4))))
+    (λ w.
+    let older = w .4 .ensures in
+    let newer = w .6 .ensures in
+    ends
+    ((λ i. with-waiting (w .7 i) (w .9 i))
+    ∙ (λ i. record {
       waiting = set (set (set (v .waiting) (v .count - 1) (free i)) (v .count - 1) (older i)) (v .count - 1 + 1) (newer i);
       count = v .count - 1 + 2;
       opened = v .opened + 1;
       best = v .best;
       found = v .found;
     })
-    ∙ sym (ap (settled judged) (branches c .judged .given .1)))
-    (start from .pre .3) in
+    ∙ sym (ap (settled judged) (w .1 .given .1)))
+    (w .8 ∙ same ∙ sym (ap (boundIn b) (w .7)))))
+    (c .match .came) in
     (turn, valid, bound, summarized judged .summarize .ensures .1)
 
 pub step-spec : {M : Type 1} → statement M
@@ -359,10 +358,10 @@ step-spec =
     returns
     sub-top
     mul-fixings
-    element-copy-out-fixings
+    array-copy-out-fixings
     free-requires
-    mul-none
-    element-set-from-none
+    mul-waiting
+    array-set-from-waiting
     add-self
     summarize-requires
     precedes-requires
@@ -373,12 +372,10 @@ step-spec =
     enum-known-judged
     child-requires
     child-requires-2
-    mul-older
-    element-set-from-older
-    add-newer
-    mul-newer
-    element-set-from-newer
+    mul-waiting-2
+    array-set-from-waiting-2
+    add-waiting
+    mul-waiting-3
+    array-set-from-waiting-3
     add-self-2
-    returns-2
-    returns-3
-    returns-4)
+    returns-2)
