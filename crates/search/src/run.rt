@@ -8,7 +8,7 @@ use route::relax;
 ghost use mathlib.Core.Path.{_≡_};
 ghost use Rattle.search.specs.Search.{run};
 ghost use Rattle.search.specs.Answers.{problemIn};
-ghost use Rattle.search.specs.Values.{turnIn, Valid, Ready};
+ghost use Rattle.search.specs.Values.{turnIn, Valid, boundIn, Ready};
 
 // Steps until one ends. What is lent is that of the plan, as for a step. What a step hands back stays whole: to take the search out of it would
 // copy it. The steps share the room that they work in.
@@ -23,7 +23,7 @@ pub fn run(
     query: Query,
 ) -> Stepped
     requires { ⌜ Ready (now p) (now places) (now ends) (now arcs) (now exits) (now clauses) counts query ⌝ }
-    ensures { λ v. ⌜ (turnIn (now (p .entry)) v ≡ run (problemIn (now (p .entry)) query) (query .budget)) × Valid (now (p .entry)) (v .search) ⌝ }
+    ensures { λ v. ⌜ (turnIn (now (p .entry)) v ≡ run (problemIn (now (p .entry)) query) (query .budget)) × Valid (now (p .entry)) (v .search) × (v .bound ≡ boundIn (now (p .entry)) (v .search)) ⌝ }
 {
     let mut ways = [0u64; 257];
     let mut stepped = Stepped {

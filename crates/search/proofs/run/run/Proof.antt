@@ -65,19 +65,28 @@ enum-told-2 : tie.Need-enum-told-2 Inv-loop μ-loop
 enum-told-2 c = search needs
 
 returns : tie.Need-returns Inv-loop μ-loop
-returns c = at-ending (c .before .before) Found (c .enum-told2 .given .1)
+returns c =
+    let at = c .before .before in
+    let (turn, valid) = at-ending at Found (c .enum-told2 .given .1) in
+    (turn, valid, at .loop .inv .1)
 
 enum-told-3 : tie.Need-enum-told-3 Inv-loop μ-loop
 enum-told-3 c = search needs
 
 returns-2 : tie.Need-returns-2 Inv-loop μ-loop
-returns-2 c = at-ending (c .before .before) Nothing (c .enum-told3 .given .1)
+returns-2 c =
+    let at = c .before .before in
+    let (turn, valid) = at-ending at Nothing (c .enum-told3 .given .1) in
+    (turn, valid, at .loop .inv .1)
 
 enum-told-4 : tie.Need-enum-told-4 Inv-loop μ-loop
 enum-told-4 c = search needs
 
 returns-3 : tie.Need-returns-3 Inv-loop μ-loop
-returns-3 c = at-ending (c .before .before) Spent (c .enum-told4 .given .1)
+returns-3 c =
+    let at = c .before .before in
+    let (turn, valid) = at-ending at Spent (c .enum-told4 .given .1) in
+    (turn, valid, at .loop .inv .1)
 
 pub run-spec : {M : Type 1} → statement M
 run-spec =
