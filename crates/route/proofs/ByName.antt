@@ -11,7 +11,7 @@
 --   route-belts      its belts are the plan's
 --   passes-names     it passes the belts whose names it has
 --   route-length     it has at most t - s belts: each leads higher
---   route-cost       THE BOUND of its cost: 65,535 for each belt
+--   sum-cost         THE BOUND of a cost: 65,535 for each belt of the plan, whether they are a route or not
 --   route-few, route-cheap
 --                    so between junctions it has at most 255 belts, and costs less than costLimit
 --   ends-junctions   s and t are junctions where they are no wrong ends
@@ -20,6 +20,7 @@
 --   packed-sets      belts stored from the front of an array of 255 are `packed`
 --   known-route      the belts that a known Route holds are the belts at their records
 --   known-names      and their names are those that it holds
+--   known-cheap      they cost less than costLimit
 --
 -- Assumes nothing.
 use mathlib.Core.Path.{_≡_, refl, sym, _∙_, ap}
@@ -28,7 +29,7 @@ use mathlib.Core.Bool.{Bool, true, false, _&&_, _||_}
 use Prim.Native.Nat.{ℕ, _+_, _*_, _-_, _≤_, _<_}
 use mathlib.Core.List.{List, [], _∷_, _++_, map, List·Memᴰ, List·Memᴰ·head, List·Memᴰ·tail, List·Memᴰ·not-nil, List·Memᴰ·cases-cons, map-map, map-id}
 use native.Mathlib.Omega.{arith}
-use lib.ListN.{length, replicate, length-map}
+use lib.ListN.{length, take, replicate, length-map, length-take}
 use lib.Seq.{take-at, sets}
 use lib.Dec.{eqb}
 use borrow.Author.Tests.{eqb-true, eq-eqb, ne-eqb, not-false}
@@ -66,6 +67,10 @@ one-named x (y ∷ ys) (more h r) m = go (List·Memᴰ·cases-cons m) (one-named
         let d : same y ≡ false = ne-eqb (y .name) (x .name) (λ q. omega (arith, h (x .name) (in-map (λ (v : Belt). v .name) k))) in
         ap (λ (t : Bool). kept t y (keep same ys)) d ∙ below k
 
+pub route-belts : (p : Plan) (s t : ℕ) (r : List Belt) → IsRoute p s t r → (e : Belt) → List·Memᴰ e r → List·Memᴰ e (p .belts)
+route-belts p s t [] h e m = absurd (List·Memᴰ·not-nil m)
+route-belts p s t (f ∷ r) h e m = each (λ (e : Belt). List·Memᴰ e (p .belts)) (h .0) (route-belts p (f .leads) t r (h .2)) e m
+
 module _ {b : List ℕ} (ok : Accepted b) where
   -- the belts of the plan with the name of one of them
   the-named : (x : Belt) → List·Memᴰ x (planOf b .belts) → keep (λ (y : Belt). eqb (y .name) (x .name)) (planOf b .belts) ≡ x ∷ []
@@ -96,15 +101,15 @@ module _ {b : List ℕ} (ok : Accepted b) where
   route-length s t [] h = omega arith
   route-length s t (e ∷ r) h = omega (arith, h .1, belt-ends ok e (h .0) .1, route-length (e .leads) t r (h .2))
 
-  route-cost : Bytes b → (s t : ℕ) (r : List Belt) → IsRoute (planOf b) s t r → cost r ≤ 65535 * length r
-  route-cost bytes s t [] h = omega arith
-  route-cost bytes s t (e ∷ r) h = omega (arith, belts-cost ok bytes e (h .0), route-cost bytes (e .leads) t r (h .2))
+  sum-cost : Bytes b → (r : List Belt) → ((e : Belt) → List·Memᴰ e r → List·Memᴰ e (planOf b .belts)) → cost r ≤ 65535 * length r
+  sum-cost bytes [] h = omega arith
+  sum-cost bytes (e ∷ r) h = omega (arith, belts-cost ok bytes e (h e (List·Memᴰ·head refl)), sum-cost bytes r (λ f m. h f (List·Memᴰ·tail m)))
 
   pub route-few : (s t : ℕ) (r : List Belt) → 1 ≤ s → t ≤ planOf b .junctions → IsRoute (planOf b) s t r → length r ≤ 255
   route-few s t r low inside h = omega (arith, route-length s t r h, plan-sizes ok .1)
 
   pub route-cheap : Bytes b → (s t : ℕ) (r : List Belt) → t ≤ planOf b .junctions → IsRoute (planOf b) s t r → cost r < costLimit
-  route-cheap bytes s t r inside h = omega (arith, route-cost bytes s t r h, route-length s t r h, plan-sizes ok .1)
+  route-cheap bytes s t r inside h = omega (arith, sum-cost bytes r (route-belts (planOf b) s t r h), route-length s t r h, plan-sizes ok .1)
 
 pub named-in : (p : Plan) (es : List ℕ) (e : Belt) → List·Memᴰ e (beltsByName p es) → List·Memᴰ e (p .belts)
 named-in p es e m =
@@ -115,10 +120,6 @@ pub route-connects : (p : Plan) (s t : ℕ) (r : List Belt) → IsRoute p s t r 
 route-connects p s t [] h = eq-eqb s t h
 route-connects p s t (e ∷ r) h =
     and-is (eqb (e .leaves) s) (connects (e .leads) t r) (eq-eqb (e .leaves) s (h .1)) (route-connects p (e .leads) t r (h .2))
-
-pub route-belts : (p : Plan) (s t : ℕ) (r : List Belt) → IsRoute p s t r → (e : Belt) → List·Memᴰ e r → List·Memᴰ e (p .belts)
-route-belts p s t [] h e m = absurd (List·Memᴰ·not-nil m)
-route-belts p s t (f ∷ r) h e m = each (λ (e : Belt). List·Memᴰ e (p .belts)) (h .0) (route-belts p (f .leads) t r (h .2)) e m
 
 pub passes-names : (r : List Belt) (e : ℕ) → passes r e ≡ mem e (namesOf r)
 passes-names [] e = refl
@@ -148,3 +149,9 @@ known-route ok r k = named-map ok (idsOf r) (k .belts)
 
 pub known-names : {b : List ℕ} → Accepted b → (r : Route) → Known b r → namesOf (routeIn b r) ≡ idsOf r
 known-names {b} ok r k = ap namesOf (known-route ok r k) ∙ map-map (λ (e : Belt). e .name) (beltAt b) (idsOf r) ∙ map-id (idsOf r)
+
+pub known-cheap : {b : List ℕ} → Accepted b → Bytes b → (r : Route) → Known b r → cost (routeIn b r) < costLimit
+known-cheap {b} ok bytes r k =
+    let sum = sum-cost ok bytes (routeIn b r) (named-in (planOf b) (idsOf r)) in
+    let size : length (routeIn b r) ≡ length (idsOf r) = sym (length-map (routeIn b r) (λ (e : Belt). e .name)) ∙ ap length (known-names ok r k) in
+    omega (arith, sum, size, k .few, length-map (take (r .count) (r .belts)) (λ (e : BeltId). e .0), length-take (r .count) (r .belts))

@@ -20,7 +20,6 @@ use lib.ListN.{length, getD, set, replicate, length-set, length-replicate, getD-
 use lib.Seq.{getD-set-same, getD-set-other, ext-getD}
 use lib.Dec.{ltb}
 use borrow.Author.Tests.{ltb-true, ltb-false}
-use Rattle.plan.specs.declared.read.BeltId.{BeltId}
 use Rattle.plan.specs.Plan.{beltId}
 use Rattle.plan.proofs.Lists.{test}
 use Rattle.route.specs.Inner.{costsIn, firstsIn, Spared}

@@ -1,7 +1,7 @@
 -- The pass backwards: looking at the belts of a junction one by one gives the way on from it.
 --
 --   way-low           a way on costs less than costLimit
---   cost-low          the cost of a way on, or of none, is at most costLimit; way-lost: where it is costLimit there is none
+--   cost-low          the cost of a way on, or of none, is at most costLimit
 --   Nearest b x t u nearest
 --                     nearest is the nearest junction from u on, before t, that a required belt leaves, or t
 --   nearest-start     at t it is t; nearest-moved, nearest-kept: one junction further back
@@ -90,13 +90,6 @@ module _ {b : List ℕ} (ok : Accepted b) (bytes : Bytes b) (x : Subproblem) (t 
       go : (o : Option (List Belt)) → wayOn (planOf b) x t u ≡ o → wayCost o ≤ costLimit
       go none h = omega arith
       go (some r) h = omega (arith, way-low u r h)
-
-  pub way-lost : (u : ℕ) → wayCost (wayOn (planOf b) x t u) ≡ costLimit → wayOn (planOf b) x t u ≡ none
-  way-lost u = go (wayOn (planOf b) x t u) refl
-    where
-      go : (o : Option (List Belt)) → wayOn (planOf b) x t u ≡ o → wayCost o ≡ costLimit → o ≡ none
-      go none h c = refl
-      go (some r) h c = absurd (omega (arith, way-low u r h))
 
   -- ---- the way on from one junction
 

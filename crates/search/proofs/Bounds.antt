@@ -1,7 +1,6 @@
 -- The bound of a step: the summary of a subproblem's relaxed route, asked for with the bound, tells whether the route improves on the best.
 --
---   known-cheap       the belts of a Route of the plan cost less than costLimit
---   bound-low         so the bound is below it
+--   bound-low         the bound is below costLimit, as the cost of a Route of the plan is
 --   Summed k w v      the summary v is of the relaxed route that the answer w has, and that costs at most k; or it costs more than k, and so
 --                     does the relaxed route, if there is one
 --   summed            so it is for a summary that was asked for with the bound k
@@ -20,16 +19,13 @@ use mathlib.Core.Path.{_≡_, refl, sym, _∙_, ap, subst}
 use mathlib.Core.Logic.{_⊎_, inl, inr}
 use mathlib.Core.Bool.{Bool, true, false, _&&_, true≢false}
 use mathlib.Core.Option.{Option, none, some}
-use Prim.Native.Nat.{ℕ, _*_, _≤_, _<_}
-use mathlib.Core.List.{List, [], _∷_, List·Memᴰ, List·Memᴰ·head, List·Memᴰ·tail}
+use Prim.Native.Nat.{ℕ, _≤_, _<_}
+use mathlib.Core.List.{List}
 use native.Mathlib.Omega.{arith}
-use lib.ListN.{length, take, length-map, length-take}
 use lib.Dec.{leb}
 use borrow.Author.Tests.{leb-true, leb-false, le-leb, lt-leb, lt-ltb, le-ltb}
-use Rattle.plan.specs.declared.read.BeltId.{BeltId}
 use Rattle.plan.specs.Plan.{Belt, planOf}
 use Rattle.plan.specs.Reading.{Accepted, Bytes}
-use Rattle.plan.proofs.Reading.{belts-cost}
 use Rattle.route.specs.declared.path.Route.{Route}
 use Rattle.route.specs.declared.path.Trip.{Trip}
 use Rattle.route.specs.declared.relax.Fixings.{Fixings}
@@ -37,8 +33,8 @@ use Rattle.route.specs.declared.relax.Relaxed.{Relaxed}
 use Rattle.route.specs.declared.relax.Summary.{Summary}
 use Rattle.route.specs.Routes.{wrongEnds, cost, costLimit, lower}
 use Rattle.route.specs.Subproblems.{relaxed}
-use Rattle.route.specs.Values.{idsOf, Known, routeIn, subproblemIn, relaxedAs, atMost, summaryAs}
-use Rattle.route.proofs.ByName.{named-in, known-names, ends-junctions}
+use Rattle.route.specs.Values.{Known, routeIn, subproblemIn, relaxedAs, atMost, summaryAs}
+use Rattle.route.proofs.ByName.{known-cheap, ends-junctions}
 use Rattle.route.proofs.Order.{first-ne}
 use Rattle.route.proofs.Answered.{answer-claim}
 use Rattle.search.specs.declared.query.Query.{Query}
@@ -49,22 +45,9 @@ use Rattle.search.specs.Inner.{relaxedIn, betterIn, judgedIn}
 
 -- ---- the bound
 
-module _ {b : List ℕ} (ok : Accepted b) (bytes : Bytes b) where
-  -- 65,535 for each belt
-  belts-sum : (r : List Belt) → ((e : Belt) → List·Memᴰ e r → List·Memᴰ e (planOf b .belts)) → cost r ≤ 65535 * length r
-  belts-sum [] h = omega arith
-  belts-sum (e ∷ r) h =
-      omega (arith, belts-cost ok bytes e (h e (List·Memᴰ·head refl)), belts-sum r (λ f m. h f (List·Memᴰ·tail m)))
-
-  known-cheap : (r : Route) → Known b r → cost (routeIn b r) < costLimit
-  known-cheap r k =
-      let sum = belts-sum (routeIn b r) (named-in (planOf b) (idsOf r)) in
-      let size : length (routeIn b r) ≡ length (idsOf r) = sym (length-map (routeIn b r) (λ (e : Belt). e .name)) ∙ ap length (known-names ok r k) in
-      omega (arith, sum, size, k .few, length-map (take (r .count) (r .belts)) (λ (e : BeltId). e .0), length-take (r .count) (r .belts))
-
-  pub bound-low : (t : Bool) (best : Route) → Known b best → boundOf (bestIn b t best) < costLimit
-  bound-low true best k = known-cheap best k
-  bound-low false best k = omega arith
+pub bound-low : {b : List ℕ} → Accepted b → Bytes b → (t : Bool) (best : Route) → Known b best → boundOf (bestIn b t best) < costLimit
+bound-low ok bytes true best k = known-cheap ok bytes best k
+bound-low ok bytes false best k = omega arith
 
 -- ---- the summary
 

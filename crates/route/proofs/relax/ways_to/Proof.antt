@@ -6,7 +6,6 @@ use Prim.Native.Nat.{ℕ, _*_, _+_, _-_, _/_, _≤_, _<_}
 use mathlib.Core.List.{List}
 use native.Mathlib.Omega.{arith}
 use lib.ListN.{getD, set}
-use Rattle.plan.specs.declared.read.BeltId.{BeltId}
 use Rattle.plan.specs.Plan.{Belt}
 use Rattle.plan.specs.Reading.{Bytes}
 use Rattle.plan.proofs.Reading.{plan-sizes}
