@@ -7,10 +7,11 @@ use plan::read::BeltId;
 use route::masks;
 use route::path::Trip;
 use route::relax::Fixings;
-use route::relax::Relaxed;
+use route::relax::Summary;
 ghost use mathlib.Core.Path.{_≡_};
 ghost use mathlib.Core.Bool.{true, false};
 ghost use Prim.Native.Nat.{_^_, _<_};
+ghost use lib.ListN.{length};
 ghost use Rattle.plan.specs.Plan.{planOf};
 ghost use Rattle.plan.specs.Reading.{Accepted};
 ghost use Rattle.route.specs.Routes.{wrongEnds};
@@ -73,26 +74,42 @@ fn within(mask: Mask, end: usize) -> bool
     false
 }
 
-fn print_relaxed(relaxed: Relaxed) {
-    if !relaxed.found {
+// Prints a summary, and the belts of its route, whose numbers are in `kept`.
+fn print_relaxed(summary: Summary, kept: &[u16; 255])
+    requires { ⌜ length (now kept) ≡ 255 ⌝ }
+{
+    if route::relax::UNBOUNDED < summary.cost {
         io::write_all(1, b" none");
         return;
     }
-    print_number(b" ", relaxed.cost);
-    let route = relaxed.route;
-    if route.count <= 255 {
-        listing::print_belts(route);
+    print_number(b" ", summary.cost);
+    if summary.count <= 255 {
+        listing::print_belts(route::path::of_belts(kept, summary.count));
     }
 }
 
-// The relaxed route of a subproblem, over what is made of the plan for it.
-fn relaxed_over(p: &[u8], places: &[u8; 2048], trip: Trip, fixings: Fixings) -> Relaxed
+// Prints the relaxed route of a subproblem, over what is made of the plan for it.
+fn print_over(p: &[u8], places: &[u8; 2048], trip: Trip, fixings: Fixings)
     requires { ⌜ Accepted (now p) × (now places ≡ namedPlaces (now p)) × (wrongEnds (planOf (now p)) (trip .s) (trip .t) ≡ false) × OfNamed (now p) (fixings .required) ⌝ }
 {
     let mut arcs = [0u64; 2048];
     let ends = plan::adjacency::decode(p, &mut arcs);
     let exits = route::relax::exits(p, places, &ends, &arcs);
-    route::relax::relaxed_route(p, places, &ends, &arcs, &exits, trip, fixings)
+    let mut ways = [0u64; 257];
+    let mut kept = [0u16; 255];
+    let summary = route::relax::relaxed_route(
+        p,
+        places,
+        &ends,
+        &arcs,
+        &exits,
+        trip,
+        fixings,
+        route::relax::UNBOUNDED,
+        &mut ways,
+        &mut kept,
+    );
+    print_relaxed(summary, &kept);
 }
 
 // The relaxed route between two junctions of an accepted plan. The places of named belts are below their count, so no mask of theirs goes
@@ -106,7 +123,7 @@ fn print_fixed(p: &[u8], places: &[u8; 2048], trip: Trip, required: Mask, forbid
             required: required.bits,
             forbidden: forbidden.bits,
         };
-        print_relaxed(relaxed_over(p, places, trip, fixings));
+        print_over(p, places, trip, fixings);
         return;
     }
     io::write_all(1, b" not named");

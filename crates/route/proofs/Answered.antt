@@ -1,23 +1,21 @@
--- The route that is answered is the relaxed route, and can be tested, written and checked.
+-- The relaxed route, as the code holds it, can be tested, written and checked.
 --
 --   answer-claim   this as it is claimed (AnswerClaim)
 --
 -- Assumes nothing.
 use mathlib.Core.Path.{_≡_, refl, sym, _∙_, ap, subst}
-use mathlib.Core.Bool.{true≢false}
-use mathlib.Core.Option.{Option, none, some}
-use Prim.Native.Nat.{ℕ, _≤_, _<_}
+use mathlib.Core.Option.{some}
+use Prim.Native.Nat.{ℕ, _+_, _≤_}
 use mathlib.Core.List.{List, List·Memᴰ}
 use native.Mathlib.Omega.{arith}
-use lib.ListN.{length, length-map}
+use lib.ListN.{length, take, drop, length-map}
+use lib.Seq.{sets-eq, take-at}
 use Rattle.plan.specs.Plan.{Belt, planOf, namesOf}
 use Rattle.plan.specs.Reading.{Accepted, IsBelt}
 use Rattle.plan.proofs.Lists.{map-in}
 use Rattle.plan.proofs.Reading.{belt-of}
-use Rattle.route.specs.declared.relax.Relaxed.{Relaxed}
-use Rattle.route.specs.Routes.{IsRoute, cost, costLimit, beltsByName}
-use Rattle.route.specs.Subproblems.{relaxed}
-use Rattle.route.specs.Values.{idsOf, packed, Known, routeIn, maskOf, relaxedAs}
+use Rattle.route.specs.Routes.{IsRoute, beltsByName}
+use Rattle.route.specs.Values.{idsOf, packed, Known, routeIn, routeOf, firstBelts, keptOf}
 use Rattle.route.specs.Claims.{AnswerClaim}
 use Rattle.route.proofs.ByName.{names-belts, route-few, route-cheap, route-belts, ids-packed}
 use Rattle.route.proofs.Firsts.{relaxed-some}
@@ -38,22 +36,20 @@ module _ {b : List ℕ} (ok : Accepted b) (s t : ℕ) (r : List Belt) (h : IsRou
   same : routeIn b (packed (namesOf r)) ≡ r
   same = ap (beltsByName (planOf b)) (ids-packed (namesOf r) few) ∙ names-belts ok r (route-belts (planOf b) s t r h)
 
-pub answer-claim : AnswerClaim
-answer-claim b ok bytes s t low high x v e h = go (relaxed (planOf b) s t x) refl
-  where
-    Answer : Option (List Belt) → Relaxed → Type 0
-    Answer o w = Known b (w .route) × (o ≡ some (routeIn b (w .route))) × (w .cost ≡ cost (routeIn b (w .route))) × (w .cost < costLimit)
-        × (w .named ≡ maskOf b (idsOf (w .route)))
+-- belts that were put into room are read back
+stands : (r : List Belt) → length r ≤ 255 → (room : List ℕ) → length room ≡ 255 → firstBelts (length r) (keptOf (some r) room) ≡ routeOf r
+stands r h room size =
+    let many : length (namesOf r) ≡ length r = length-map r (λ (e : Belt). e .name) in
+    ap packed
+    (ap (take (length r)) (sets-eq (namesOf r) room 0 (omega arith)) ∙ take-at (namesOf r) (drop (0 + length (namesOf r)) room) (length r) many)
 
-    go : (o : Option (List Belt)) → relaxed (planOf b) s t x ≡ o → Answer o v
-    go none q = absurd (true≢false (sym h ∙ ap (λ (w : Relaxed). w .found) (e ∙ ap (relaxedAs b) q)))
-    go (some r) q =
-        let i : IsRoute (planOf b) s t r = relaxed-some ok s t x r q .0 in
-        let here = same ok s t r i low high in
-        subst (Answer (some r)) (sym (e ∙ ap (relaxedAs b) q)) (
-          known ok s t r i low high,
-          ap {B = Option (List Belt)} some (sym here),
-          ap cost (sym here),
-          route-cheap ok bytes s t r high i,
-          ap (maskOf b) (sym (ids-packed (namesOf r) (few ok s t r i low high))),
-        )
+pub answer-claim : AnswerClaim
+answer-claim b ok bytes s t low high x r q =
+    let i : IsRoute (planOf b) s t r = relaxed-some ok s t x r q .0 in
+    let h = few ok s t r i low high in (
+      route-cheap ok bytes s t r high i,
+      known ok s t r i low high,
+      ids-packed (namesOf r) h,
+      same ok s t r i low high,
+      stands r (omega (arith, length-map r (λ (e : Belt). e .name))),
+    )

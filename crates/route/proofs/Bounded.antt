@@ -2,10 +2,9 @@
 --
 --   at-most-none   there is none where the way on costs more, or is not there
 --   at-most-some   else it is the way on
---   at-most-low    a bound that the way on keeps to drops none
 --   at-most-found, at-most-lost
 --                  by its cost: that of a way on, which it then is, or that of none
---   summary-of     the answer for it, by its cost and its named belts
+--   kept-size      room that its belts are put into stays as large
 --
 -- Assumes nothing.
 use mathlib.Core.Path.{_≡_, refl, sym, _∙_, ap, subst}
@@ -15,13 +14,14 @@ use mathlib.Core.Option.{Option, none, some}
 use Prim.Native.Nat.{ℕ, _≤_, _<_}
 use mathlib.Core.List.{List}
 use native.Mathlib.Omega.{arith}
+use lib.ListN.{length}
+use lib.Seq.{length-sets}
 use lib.Dec.{leb}
 use borrow.Author.Tests.{leb-true, leb-false, le-leb, lt-leb}
-use Rattle.plan.specs.Plan.{Belt}
+use Rattle.plan.specs.Plan.{Belt, namesOf}
 use Rattle.plan.proofs.Lists.{test}
-use Rattle.route.specs.declared.relax.Summary.{Summary}
 use Rattle.route.specs.Routes.{cost, costLimit}
-use Rattle.route.specs.Values.{relaxedAs, atMost, summaryAs}
+use Rattle.route.specs.Values.{atMost, keptOf}
 use Rattle.route.specs.Inner.{wayCost}
 
 -- by whether the cost is within the bound
@@ -35,10 +35,6 @@ at-most-none k (some r) l = ap (by r) (lt-leb (cost r) k l)
 pub at-most-some : (k : ℕ) (o : Option (List Belt)) → wayCost o ≤ k → atMost k o ≡ o
 at-most-some k none l = refl
 at-most-some k (some r) l = ap (by r) (le-leb (cost r) k l)
-
-pub at-most-low : (k : ℕ) (o : Option (List Belt)) → ((r : List Belt) → o ≡ some r → cost r ≤ k) → atMost k o ≡ o
-at-most-low k none all = refl
-at-most-low k (some r) all = at-most-some k (some r) (all r refl)
 
 pub at-most-found : (k : ℕ) (o : Option (List Belt)) → (wayCost (atMost k o) ≡ costLimit → ⊥) → (atMost k o ≡ o) × (wayCost (atMost k o) ≤ k)
 at-most-found k none h = absurd (h refl)
@@ -62,6 +58,6 @@ at-most-lost k (some r) h c = go (test (leb (cost r) k))
         absurd (omega arith)
     go (inr l) = at-most-none k (some r) (leb-false (cost r) k l)
 
-pub summary-of : (b : List ℕ) (o : Option (List Belt)) → _≡_ {A = Summary} (record { cost = wayCost o; named = relaxedAs b o .named }) (summaryAs b o)
-summary-of b none = refl
-summary-of b (some r) = refl
+pub kept-size : (o : Option (List Belt)) (room : List ℕ) → length (keptOf o room) ≡ length room
+kept-size none room = refl
+kept-size (some r) room = length-sets room 0 (namesOf r)

@@ -1,12 +1,12 @@
 -- The walk forward: at each junction, what is stored and what is left of the way on make the whole way on from s.
 --
---   Walked b f s t at count belts m
---                  the walk has come to junction at, has stored count belts and gathered the mask m
+--   Walked b f s t start at count kept m
+--                  the walk has come to junction at, has stored count belts into what was `start` and gathered the mask m
 --   walked-start   it starts with nothing stored
---   Step b f s t at count belts m x
+--   Step b f s t start at count kept m x
 --                  it can go on by belt x, which it stores and gathers
 --   walked-next    where t is not reached it can go on by the belt that firsts has
---   walked-whole   where t is reached, the route that is stored is the answer
+--   walked-whole   where t is reached, cost, count and mask are the answer, and the whole way is stored
 --
 -- Nothing is said of the belts behind: that those left, stored and gathered from here on, would give what the whole way gives is kept by every
 -- step, and at t, where none is left, it says what is wanted. Assumes nothing.
@@ -17,18 +17,18 @@ use Prim.Native.Nat.{ℕ, suc, _+_, _≤_, _<_}
 use mathlib.Core.List.{List, [], _∷_, map}
 use native.Mathlib.Omega.{arith}
 use native.Mathlib.Numerals.{add-one}
-use lib.ListN.{length, getD, set, replicate, length-map}
+use lib.ListN.{length, getD, set}
 use lib.Seq.{sets}
 use Rattle.plan.specs.declared.read.BeltId.{BeltId}
 use Rattle.plan.specs.Plan.{Belt, planOf, beltAt, namesOf, beltId, placeIn}
 use Rattle.plan.specs.Reading.{Accepted, IsBelt}
 use Rattle.plan.proofs.Reading.{belt-of, belt-ends}
 use Rattle.route.specs.declared.relax.Fixings.{Fixings}
-use Rattle.route.specs.declared.relax.Relaxed.{Relaxed}
+use Rattle.route.specs.declared.relax.Summary.{Summary}
 use Rattle.route.specs.Routes.{cost, costLimit}
-use Rattle.route.specs.Values.{packed, subproblemIn, withPlace, namedPlaces, gatheredIn, maskOf, relaxedAs}
+use Rattle.route.specs.Values.{subproblemIn, withPlace, namedPlaces, gatheredIn, maskOf, summaryAs, keptOf}
 use Rattle.route.specs.Inner.{wayIn, wayCost, Guides}
-use Rattle.route.proofs.ByName.{route-few, packed-sets}
+use Rattle.route.proofs.ByName.{route-few}
 use Rattle.route.proofs.Order.{ends-claim}
 use Rattle.route.proofs.Onward.{way-route, way-length, way-next}
 
@@ -40,7 +40,7 @@ way-found (some r) costBy h = (r, refl)
 -- ---- the walk
 
 -- whole: the way on from s; rest: that from where the walk is
-pub record Walked (b : List ℕ) (f : Fixings) (s t at count : ℕ) (belts : List BeltId) (m : ℕ) : Type 0 where
+pub record Walked (b : List ℕ) (f : Fixings) (s t : ℕ) (start : List ℕ) (at count : ℕ) (kept : List ℕ) (m : ℕ) : Type 0 where
   whole : List Belt
   rest : List Belt
   way : wayIn b f t s ≡ some whole
@@ -48,18 +48,18 @@ pub record Walked (b : List ℕ) (f : Fixings) (s t at count : ℕ) (belts : Lis
   few : length whole ≤ 255
   reached : s ≤ at
   counts : count + length rest ≡ length whole
-  stores : sets belts count (map beltId (namesOf rest)) ≡ packed (namesOf whole) .belts
+  stores : sets kept count (namesOf rest) ≡ sets start 0 (namesOf whole)
   gathers : gatheredIn (namedPlaces b) m (namesOf rest) ≡ maskOf b (namesOf whole)
 
-pub record Step (b : List ℕ) (f : Fixings) (s t at count : ℕ) (belts : List BeltId) (m : ℕ) (x : BeltId) : Type 0 where
+pub record Step (b : List ℕ) (f : Fixings) (s t : ℕ) (start : List ℕ) (at count : ℕ) (kept : List ℕ) (m : ℕ) (x : BeltId) : Type 0 where
   pub belt : IsBelt b (x .0)
   pub room : count < 255
   pub higher : at < beltAt b (x .0) .leads
   pub inside : beltAt b (x .0) .leads ≤ t
-  pub walked : Walked b f s t (beltAt b (x .0) .leads) (count + 1) (set belts count x) (withPlace m (placeIn (namedPlaces b) (x .0)))
+  pub walked : Walked b f s t start (beltAt b (x .0) .leads) (count + 1) (set kept count (x .0)) (withPlace m (placeIn (namedPlaces b) (x .0)))
 
-module _ {b : List ℕ} (ok : Accepted b) {f : Fixings} {s t : ℕ} where
-  pub walked-start : {c : ℕ} → 1 ≤ s → t ≤ planOf b .junctions → c ≡ wayCost (wayIn b f t s) → (c ≡ costLimit → ⊥) → Walked b f s t s 0 (replicate 255 (beltId 0)) 0
+module _ {b : List ℕ} (ok : Accepted b) {f : Fixings} {s t : ℕ} {start : List ℕ} where
+  pub walked-start : {c : ℕ} → 1 ≤ s → t ≤ planOf b .junctions → c ≡ wayCost (wayIn b f t s) → (c ≡ costLimit → ⊥) → Walked b f s t start s 0 start 0
   walked-start low inside costBy h =
       let (r, q) = way-found (wayIn b f t s) costBy h in
       let few : length r ≤ 255 = route-few ok s t r low inside (way-route ok (subproblemIn b f) t s r q) in
@@ -71,13 +71,13 @@ module _ {b : List ℕ} (ok : Accepted b) {f : Fixings} {s t : ℕ} where
         few = few;
         reached = omega arith;
         counts = omega arith;
-        stores = packed-sets (namesOf r) (omega (arith, length-map r (λ (e : Belt). e .name)));
+        stores = refl;
         gathers = refl;
       }
 
-  module _ {at count : ℕ} {belts : List BeltId} {m : ℕ} (w : Walked b f s t at count belts m) where
+  module _ {at count : ℕ} {kept : List ℕ} {m : ℕ} (w : Walked b f s t start at count kept m) where
     -- the belt that is first in what is left is stored
-    step : (e : Belt) (r : List Belt) → w .rest ≡ e ∷ r → Step b f s t at count belts m (beltId (e .name))
+    step : (e : Belt) (r : List Belt) → w .rest ≡ e ∷ r → Step b f s t start at count kept m (beltId (e .name))
     step e r q =
         let on = w .on ∙ ap (λ (l : List Belt). some l) q in
         let (i, leaves, next) = way-next ok (subproblemIn b f) t at e r on in
@@ -98,35 +98,36 @@ module _ {b : List ℕ} (ok : Accepted b) {f : Fixings} {s t : ℕ} where
             few = w .few;
             reached = omega (arith, w .reached);
             counts = omega (arith, w .counts);
-            stores = ap (λ (k : ℕ). sets (set belts count (beltId (e .name))) k (map beltId (namesOf r))) (add-one count)
-                ∙ sym (ap (λ (l : List Belt). sets belts count (map beltId (namesOf l))) q)
+            stores = ap (λ (k : ℕ). sets (set kept count (e .name)) k (namesOf r)) (add-one count)
+                ∙ sym (ap (λ (l : List Belt). sets kept count (namesOf l)) q)
                 ∙ w .stores;
             gathers = sym (ap (λ (l : List Belt). gatheredIn (namedPlaces b) m (namesOf l)) q) ∙ w .gathers;
           };
         }
 
-    pub walked-next : (firsts : List BeltId) → Guides b f t s firsts → (at ≡ t → ⊥) → Step b f s t at count belts m (getD firsts at (beltId 0))
+    pub walked-next : (firsts : List BeltId) → Guides b f t s firsts → (at ≡ t → ⊥) → Step b f s t start at count kept m (getD firsts at (beltId 0))
     walked-next firsts g past = go (w .rest) refl
       where
-        go : (l : List Belt) → w .rest ≡ l → Step b f s t at count belts m (getD firsts at (beltId 0))
+        go : (l : List Belt) → w .rest ≡ l → Step b f s t start at count kept m (getD firsts at (beltId 0))
         go [] q = absurd (past (way-route ok (subproblemIn b f) t at [] (w .on ∙ ap (λ (l : List Belt). some l) q)))
         go (e ∷ r) q =
             let first = g at (w .reached) e r (w .on ∙ ap (λ (l : List Belt). some l) q) in
-            subst (Step b f s t at count belts m) (sym first) (step e r q)
+            subst (Step b f s t start at count kept m) (sym first) (step e r q)
 
     -- where t is reached nothing is left
     nothing-left : at ≡ t → w .rest ≡ []
     nothing-left q = ends-claim b ok at t (w .rest) (way-route ok (subproblemIn b f) t at (w .rest) (w .on)) .1 q
 
     pub walked-whole : {c : ℕ} → c ≡ wayCost (wayIn b f t s) → at ≡ t
-        → _≡_ {A = Relaxed} (record { found = true; route = record { count = count; belts = belts }; cost = c; named = m }) (relaxedAs b (wayIn b f t s))
+        → (_≡_ {A = Summary} (record { cost = c; count = count; named = m }) (summaryAs b (wayIn b f t s))) × (kept ≡ keptOf (wayIn b f t s) start)
     walked-whole {c} costBy q =
         let r = w .whole in
         let none-left = nothing-left q in
         let left : length (w .rest) ≡ 0 = ap length none-left in
-        let counted : count ≡ length (namesOf r) = omega (arith, w .counts, length-map r (λ (e : Belt). e .name)) in
-        let stored : belts ≡ packed (namesOf r) .belts = sym (ap (λ (l : List Belt). sets belts count (map beltId (namesOf l))) none-left) ∙ w .stores in
+        let counted : count ≡ length r = omega (arith, w .counts) in
+        let stored : kept ≡ keptOf (some r) start = sym (ap (λ (l : List Belt). sets kept count (namesOf l)) none-left) ∙ w .stores in
         let priced : c ≡ cost r = costBy ∙ ap wayCost (w .way) in
-        let gathered : m ≡ maskOf b (namesOf r) = sym (ap (λ (l : List Belt). gatheredIn (namedPlaces b) m (namesOf l)) none-left) ∙ w .gathers in
-        (λ i. record { found = true; route = record { count = counted i; belts = stored i }; cost = priced i; named = gathered i })
-        ∙ sym (ap (relaxedAs b) (w .way))
+        let gathered : m ≡ maskOf b (namesOf r) = sym (ap (λ (l : List Belt). gatheredIn (namedPlaces b) m (namesOf l)) none-left) ∙ w .gathers in (
+          (λ i. record { cost = priced i; count = counted i; named = gathered i }) ∙ sym (ap (summaryAs b) (w .way)),
+          stored ∙ sym (ap (λ (o : Option (List Belt)). keptOf o start) (w .way)),
+        )

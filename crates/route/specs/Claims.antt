@@ -23,8 +23,8 @@
 --                      forbidden belt
 --   BitClaim           bit k of a mask is for the k-th of the named belts
 --   MasksClaim         every subproblem of named belts has masks, with the same relaxed routes
---   AnswerClaim        the route that the code answers is the relaxed route, of at most 255 belts of the plan, with its cost, which is
---                      below costLimit: it can be tested, written and checked
+--   AnswerClaim        a relaxed route has at most 255 belts, all of the plan, and costs less than costLimit; the code's answer holds it, and in room
+--                      that the code put its belts into it stands whole: it can be tested, written and checked
 -- Sheets:
 --   ReadingClaim       bytes are in the form of a sheet exactly when they have a reading, which is what stands in their fields
 --   OneReadingClaim    a sheet has at most one reading
@@ -59,8 +59,7 @@ use Rattle.route.specs.Instances.{arcOf, instanceOf, joint}
 use Rattle.route.specs.Sheets.{sheetOf, Reads, inForm, beltsOn, costOn, settingOn}
 use Rattle.route.specs.Refusals.{Case, queryLines, checkLines, sheetRefusal}
 use Rattle.route.specs.declared.relax.Fixings.{Fixings}
-use Rattle.route.specs.declared.relax.Relaxed.{Relaxed}
-use Rattle.route.specs.Values.{idsOf, packed, Known, routeIn, sheetIn, bytesOf, fixedIn, OfNamed, subproblemIn, maskOf, relaxedAs, caseOf}
+use Rattle.route.specs.Values.{idsOf, packed, Known, routeIn, sheetIn, bytesOf, fixedIn, OfNamed, subproblemIn, routeOf, firstBelts, keptOf, caseOf}
 
 -- ---- the published definition
 
@@ -142,10 +141,10 @@ MasksClaim = (b : List ℕ) → Accepted b → (x : Subproblem)
     × ((s t : ℕ) → relaxed (planOf b) s t (subproblemIn b f) ≡ relaxed (planOf b) s t x)
 
 abbrev pub AnswerClaim : Type 0
-AnswerClaim = (b : List ℕ) → Accepted b → Bytes b → (s t : ℕ) → 1 ≤ s → t ≤ planOf b .junctions → (x : Subproblem) (v : Relaxed)
-    → v ≡ relaxedAs b (relaxed (planOf b) s t x) → v .found ≡ true
-    → Known b (v .route) × (relaxed (planOf b) s t x ≡ some (routeIn b (v .route))) × (v .cost ≡ cost (routeIn b (v .route))) × (v .cost < costLimit)
-    × (v .named ≡ maskOf b (idsOf (v .route)))
+AnswerClaim = (b : List ℕ) → Accepted b → Bytes b → (s t : ℕ) → 1 ≤ s → t ≤ planOf b .junctions → (x : Subproblem) (r : List Belt)
+    → relaxed (planOf b) s t x ≡ some r
+    → (cost r < costLimit) × Known b (routeOf r) × (idsOf (routeOf r) ≡ namesOf r) × (routeIn b (routeOf r) ≡ r)
+    × ((room : List ℕ) → length room ≡ 255 → firstBelts (length r) (keptOf (some r) room) ≡ routeOf r)
 
 -- ---- sheets
 

@@ -1,7 +1,9 @@
--- What the values that the code hands about mean. `Trip`, `Route`, `Sheet`, `Lowest`, `Fixings`, `Relaxed` and `Summary` are declared by the code.
+-- What the values that the code hands about mean. `Trip`, `Route`, `Sheet`, `Lowest`, `Fixings` and `Summary` are declared by the code.
 --
 --   idsOf r          the names of the belts that a Route holds: the first `count` of its array
 --   packed es        the Route that holds the belts es, the rest of its array 0
+--   routeOf r        the Route that holds the belts of the route r
+--   firstBelts n ns  the Route of the first n belts of an array of names
 --   Known b r        a Route of at most 255 belts, all of them belts of the plan b
 --   routeIn b r      the belts of the plan b that a Route holds
 --   sheetIn h        the Sheet that the bytes h read as
@@ -21,9 +23,9 @@
 --   maskOf b es      the named belts of the plan b among es, as a mask
 --   hasBelt b m e    the mask m has belt e of the plan b
 --   exitsOf b        for each number from 0 to 256 the named belts of the plan b that leave the junction of this number, as a mask
---   relaxedAs b o    the answer that stands for a relaxed route of the plan b, or for none (noRelaxed)
 --   atMost c o       the route o, if there is one and it costs at most c
---   summaryAs b o    the answer that stands for the cost and the named belts of a route of the plan b, or for none (noSummary)
+--   summaryAs b o    the answer that stands for the cost of a route of the plan b, how many belts it has and the named ones, or for none (noSummary)
+--   keptOf o room    the array room with the names of the belts of the route o, if there is one, from the first place on
 --   codeIn places l  the code of literal l: twice its variable, and 1 more where it is wanted (codeBy). The variable of a belt is its place among
 --                    the named belts, as the array of places has it; that of mode m is 47 + m, behind the places of 48 belts
 --   ruleEntry b r    the entry of rule r of the plan b: the next rule, and 65,536 times its first literal
@@ -39,6 +41,7 @@ use mathlib.Core.Option.{Option, none, some}
 use mathlib.Core.List.{List, [], _∷_, _++_, map, List·Memᴰ}
 use lib.Bits.{bitOr}
 use lib.ListN.{length, getD, take, replicate}
+use lib.Seq.{sets}
 use lib.Dec.{eqb, leb}
 use Rattle.plan.specs.declared.read.BeltId.{BeltId}
 use Rattle.plan.specs.declared.read.Literal.{Literal}
@@ -55,7 +58,6 @@ use Rattle.route.specs.declared.modes.Lowest.{Lowest}
 use Rattle.route.specs.declared.modes.Lowest.the-variants.{Works, Nothing}
 use Rattle.route.specs.declared.path.Trip.{Trip}
 use Rattle.route.specs.declared.relax.Fixings.{Fixings}
-use Rattle.route.specs.declared.relax.Relaxed.{Relaxed}
 use Rattle.route.specs.declared.relax.Summary.{Summary}
 use Rattle.route.specs.Routes.{cost, costLimit, beltsByName}
 use Rattle.route.specs.Subproblems.{Subproblem}
@@ -67,6 +69,12 @@ idsOf r = map (λ (e : BeltId). e .0) (take (r .count) (r .belts))
 
 abbrev pub packed : List ℕ → Route
 packed es = record { count = length es; belts = map beltId es ++ replicate (255 - length es) (beltId 0) }
+
+abbrev pub routeOf : List Belt → Route
+routeOf r = packed (namesOf r)
+
+abbrev pub firstBelts : ℕ → List ℕ → Route
+firstBelts n ns = packed (take n ns)
 
 pub record Known (b : List ℕ) (r : Route) : Type 0 where
   pub few : r .count ≤ 255
@@ -128,23 +136,20 @@ hasBelt b m e = inMask m (placeOf (named (planOf b)) e)
 unfoldable pub exitsOf : List ℕ → List ℕ
 exitsOf b = map (λ (u : ℕ). maskOf b (namesOf (leaving (planOf b) u))) (upto 0 257)
 
-abbrev pub noRelaxed : Relaxed
-noRelaxed = record { found = false; route = packed []; cost = 0; named = 0 }
-
-abbrev pub relaxedAs : List ℕ → Option (List Belt) → Relaxed
-relaxedAs b none = noRelaxed
-relaxedAs b (some r) = record { found = true; route = packed (namesOf r); cost = cost r; named = maskOf b (namesOf r) }
-
 abbrev pub atMost : ℕ → Option (List Belt) → Option (List Belt)
 atMost c none = none
 atMost c (some r) = elim (leb (cost r) c) [ true ↦ some r | false ↦ none ]
 
 abbrev pub noSummary : Summary
-noSummary = record { cost = costLimit; named = 0 }
+noSummary = record { cost = costLimit; count = 0; named = 0 }
 
 abbrev pub summaryAs : List ℕ → Option (List Belt) → Summary
 summaryAs b none = noSummary
-summaryAs b (some r) = record { cost = cost r; named = maskOf b (namesOf r) }
+summaryAs b (some r) = record { cost = cost r; count = length r; named = maskOf b (namesOf r) }
+
+abbrev pub keptOf : Option (List Belt) → List ℕ → List ℕ
+keptOf none room = room
+keptOf (some r) room = sets room 0 (namesOf r)
 
 -- ---- clauses
 

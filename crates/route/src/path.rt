@@ -5,11 +5,12 @@ use plan::read::BeltId;
 ghost use mathlib.Core.Path.{_≡_};
 ghost use Prim.Native.Nat.{ℕ, _≤_, _<_};
 ghost use mathlib.Core.Bool.{not};
+ghost use lib.ListN.{length};
 ghost use Rattle.plan.specs.Lists.{all, mem, within};
 ghost use Rattle.plan.specs.Plan.{planOf, namesOf};
 ghost use Rattle.plan.specs.Reading.{Accepted};
 ghost use Rattle.route.specs.Routes.{wrongEnds, connects, cost, costLimit, before};
-ghost use Rattle.route.specs.Values.{idsOf, Known, routeIn};
+ghost use Rattle.route.specs.Values.{idsOf, Known, routeIn, firstBelts};
 ghost use Rattle.route.specs.Inner.{lowerIds};
 
 // What a route is asked or checked for: it leads from junction s to junction t.
@@ -22,6 +23,24 @@ pub struct Trip {
 pub struct Route {
     pub count: usize,
     pub belts: [BeltId; 255],
+}
+
+// The route of the first `count` belts of an array of their numbers.
+pub fn of_belts(numbers: &[u16; 255], count: usize) -> Route
+    requires { ⌜ (count ≤ 255) × (length (now numbers) ≡ 255) ⌝ }
+    ensures { λ v. ⌜ v ≡ firstBelts count (now (numbers .entry)) ⌝ }
+{
+    let mut belts = [BeltId(0); 255];
+    let mut k = 0;
+    while k < count {
+        let belt = BeltId(numbers[k]);
+        belts[k] = belt;
+        k += 1;
+    }
+    Route {
+        count: count,
+        belts: belts,
+    }
 }
 
 // Whether a number is no junction of the plan.

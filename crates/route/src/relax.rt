@@ -9,10 +9,9 @@
 // is another one. Where none leaves u, only a belt by which the way on gets cheaper is looked at further. A required belt that leaves no junction
 // from s on and before t is on no route from s to t: such a subproblem is dropped before the pass.
 //
-// A search wants the route itself only where it becomes the best, or has to be compared with it belt by belt. Of the others it asks for the cost,
-// if it is within a bound, and the named belts (`summarize`), which are found without building the route.
+// What a search has of each subproblem is the cost of the route, if it is within a bound, and its named belts. The belts stay in room that the caller
+// lends: they are asked for only where the route becomes the best, or has to be compared with it belt by belt (path::of_belts).
 use crate::masks;
-use crate::path::Route;
 use crate::path::Trip;
 use plan::adjacency;
 use plan::named;
@@ -30,7 +29,7 @@ ghost use Rattle.plan.specs.Adjacency.{arcHead, arcName, arcsOf, endsOf};
 ghost use Rattle.plan.specs.Reading.{Accepted};
 ghost use Rattle.route.specs.Routes.{wrongEnds, costLimit};
 ghost use Rattle.route.specs.Subproblems.{relaxed};
-ghost use Rattle.route.specs.Values.{inMask, LowPlace, OfNamed, subproblemIn, namedPlaces, maskOf, exitsOf, noRelaxed, relaxedAs, atMost, noSummary, summaryAs};
+ghost use Rattle.route.specs.Values.{inMask, LowPlace, OfNamed, subproblemIn, namedPlaces, maskOf, exitsOf, atMost, noSummary, summaryAs, keptOf};
 ghost use Rattle.route.specs.Inner.{Lent, isRequired, arcBelt, wayOver, preferred, noWay, wayBy, wayIn, wayCost, Guides, costsIn, firstsIn, Spared, joinedIn};
 
 // A subproblem: masks over the named belts of the plan, bit k for the belt at place k among them.
@@ -39,17 +38,10 @@ pub struct Fixings {
     pub forbidden: u64,
 }
 
-// A relaxed route, its cost and the named belts on it as a mask, or that there is none; then the route is empty, and both are 0.
-pub struct Relaxed {
-    pub found: bool,
-    pub route: Route,
-    pub cost: u64,
-    pub named: u64,
-}
-
-// The cost of a relaxed route and the named belts on it as a mask, or that there is none; then the cost is NO_WAY, and the mask 0.
+// The cost of a relaxed route, how many belts it has and the named ones of them as a mask, or that there is none; then the cost is NO_WAY, and the rest 0.
 pub struct Summary {
     pub cost: u64,
+    pub count: usize,
     pub named: u64,
 }
 
@@ -255,7 +247,7 @@ fn first_of(ways: &[u64; 257], u: usize) -> BeltId
     BeltId((ways[u] % BELTS) as u16)
 }
 
-// The walk forward, from s where there is a way on: the route that it is.
+// The walk forward, from s where there is a way on: the numbers of its belts are put into `kept`, from the first place on.
 fn walk(
     p: &[u8],
     places: &[u8; 2048],
@@ -264,53 +256,26 @@ fn walk(
     ways: &[u64; 257],
     s: usize,
     t: usize,
-) -> Relaxed
+    kept: &mut [u16; 255],
+) -> Summary
     requires { ⌜ Accepted (now p) × (now places ≡ namedPlaces (now p)) × (1 ≤ s) × (t ≤ planOf (now p) .junctions) × (cost ≡ costLimit → ⊥) × (cost ≡ wayCost (wayIn (now p) fixings t s)) × Guides (now p) fixings t s (firstsIn (now ways)) ⌝ }
-    ensures { λ v. ⌜ v ≡ relaxedAs (now (p .entry)) (wayIn (now (p .entry)) fixings t s) ⌝ }
+    ensures { λ v. ⌜ (v ≡ summaryAs (now (p .entry)) (wayIn (now (p .entry)) fixings t s)) × (now (kept .exit) ≡ keptOf (wayIn (now (p .entry)) fixings t s) (now (kept .entry))) ⌝ }
 {
-    let mut belts = [BeltId(0); 255];
     let mut count = 0;
     let mut seen = 0u64;
     let mut at = s;
     while at != t {
         let belt = first_of(ways, at);
-        belts[count] = belt;
+        kept[count] = belt.0;
         count += 1;
         seen = masks::with(seen, named::place_of(places, belt));
         at = read::leads_to(p, belt);
     }
-    Relaxed {
-        found: true,
-        route: Route {
-            count: count,
-            belts: belts,
-        },
+    Summary {
         cost: cost,
+        count: count,
         named: seen,
     }
-}
-
-// The same walk, of which only the named belts are kept.
-fn named_on(
-    p: &[u8],
-    places: &[u8; 2048],
-    fixings: Fixings,
-    cost: u64,
-    ways: &[u64; 257],
-    s: usize,
-    t: usize,
-) -> u64
-    requires { ⌜ Accepted (now p) × (now places ≡ namedPlaces (now p)) × (1 ≤ s) × (t ≤ planOf (now p) .junctions) × (cost ≡ costLimit → ⊥) × (cost ≡ wayCost (wayIn (now p) fixings t s)) × Guides (now p) fixings t s (firstsIn (now ways)) ⌝ }
-    ensures { λ v. ⌜ v ≡ relaxedAs (now (p .entry)) (wayIn (now (p .entry)) fixings t s) .named ⌝ }
-{
-    let mut seen = 0u64;
-    let mut at = s;
-    while at != t {
-        let belt = first_of(ways, at);
-        seen = masks::with(seen, named::place_of(places, belt));
-        at = read::leads_to(p, belt);
-    }
-    seen
 }
 
 // Clears the ways of the junctions from s on and before t.
@@ -354,71 +319,21 @@ fn may_lead(p: &[u8], exits: &[u64; 257], trip: Trip, fixings: Fixings) -> bool
 }
 
 // No relaxed route.
-fn nothing() -> Relaxed
-    ensures { λ v. ⌜ v ≡ noRelaxed ⌝ }
-{
-    Relaxed {
-        found: false,
-        route: Route {
-            count: 0,
-            belts: [BeltId(0); 255],
-        },
-        cost: 0,
-        named: 0,
-    }
-}
-
-// The relaxed route from s to t of a subproblem. What is lent is made once for all subproblems of a plan: the places of its named belts
-// (plan::named::named_places), its belts side by side (plan::adjacency::decode), and the named belts that leave each junction (`exits`).
-pub fn relaxed_route(
-    p: &[u8],
-    places: &[u8; 2048],
-    ends: &[u16; 257],
-    arcs: &[u64; 2048],
-    exits: &[u64; 257],
-    trip: Trip,
-    fixings: Fixings,
-) -> Relaxed
-    requires { ⌜ Accepted (now p) × (now places ≡ namedPlaces (now p)) × (now ends ≡ endsOf (planOf (now p))) × (now arcs ≡ arcsOf (planOf (now p))) × (now exits ≡ exitsOf (now p)) × (wrongEnds (planOf (now p)) (trip .s) (trip .t) ≡ false) × OfNamed (now p) (fixings .required) ⌝ }
-    ensures { λ v. ⌜ v ≡ relaxedAs (now (p .entry)) (relaxed (planOf (now (p .entry))) (trip .s) (trip .t) (subproblemIn (now (p .entry)) fixings)) ⌝ }
-{
-    if !may_lead(p, exits, trip, fixings) {
-        return nothing();
-    }
-    let s = trip.s as usize;
-    let t = trip.t as usize;
-    let mut ways = [0u64; 257];
-    let cost = ways_to(
-        p,
-        places,
-        ends,
-        arcs,
-        exits,
-        fixings,
-        UNBOUNDED,
-        s,
-        t,
-        &mut ways,
-    );
-    if cost == NO_WAY {
-        return nothing();
-    }
-    walk(p, places, fixings, cost, &ways, s, t)
-}
-
-// No relaxed route.
-fn no_summary() -> Summary
+fn nothing() -> Summary
     ensures { λ v. ⌜ v ≡ noSummary ⌝ }
 {
     Summary {
         cost: NO_WAY,
+        count: 0,
         named: 0,
     }
 }
 
-// The cost and the named belts of a subproblem's relaxed route, if it costs at most `bound`. What is lent is as for `relaxed_route`; `ways` is room
-// to work in, all 0 before and after.
-pub fn summarize(
+// The relaxed route from s to t of a subproblem, if it costs at most `bound`: the numbers of its belts are put into `kept`, from the first place on,
+// and nothing else of it changes. What is lent is made once for all subproblems of a plan: the places of its named belts (plan::named::named_places), its belts
+// side by side (plan::adjacency::decode), and the named belts that leave each junction (`exits`). `ways` is room to work in, all 0 before and
+// after.
+pub fn relaxed_route(
     p: &[u8],
     places: &[u8; 2048],
     ends: &[u16; 257],
@@ -428,25 +343,23 @@ pub fn summarize(
     fixings: Fixings,
     bound: u64,
     ways: &mut [u64; 257],
+    kept: &mut [u16; 255],
 ) -> Summary
     requires { ⌜ Accepted (now p) × (now places ≡ namedPlaces (now p)) × (now ends ≡ endsOf (planOf (now p))) × (now arcs ≡ arcsOf (planOf (now p))) × (now exits ≡ exitsOf (now p)) × (wrongEnds (planOf (now p)) (trip .s) (trip .t) ≡ false) × OfNamed (now p) (fixings .required) × (bound < costLimit) × (now ways ≡ replicate 257 0) ⌝ }
-    ensures { λ v. ⌜ (v ≡ summaryAs (now (p .entry)) (atMost bound (relaxed (planOf (now (p .entry))) (trip .s) (trip .t) (subproblemIn (now (p .entry)) fixings)))) × (now (ways .exit) ≡ now (ways .entry)) ⌝ }
+    ensures { λ v. ⌜ (v ≡ summaryAs (now (p .entry)) (atMost bound (relaxed (planOf (now (p .entry))) (trip .s) (trip .t) (subproblemIn (now (p .entry)) fixings)))) × (now (ways .exit) ≡ now (ways .entry)) × (now (kept .exit) ≡ keptOf (atMost bound (relaxed (planOf (now (p .entry))) (trip .s) (trip .t) (subproblemIn (now (p .entry)) fixings))) (now (kept .entry))) ⌝ }
 {
     if !may_lead(p, exits, trip, fixings) {
-        return no_summary();
+        return nothing();
     }
     let s = trip.s as usize;
     let t = trip.t as usize;
     let cost = ways_to(p, places, ends, arcs, exits, fixings, bound, s, t, ways);
-    let mut named = 0u64;
+    let mut summary = nothing();
     if cost != NO_WAY {
-        named = named_on(p, places, fixings, cost, ways, s, t);
+        summary = walk(p, places, fixings, cost, ways, s, t, kept);
     }
     clear(ways, s, t);
-    Summary {
-        cost: cost,
-        named: named,
-    }
+    summary
 }
 
 // The named belts that leave junction u, as a mask.

@@ -1,47 +1,47 @@
 -- The bound of a step: the summary of a subproblem's relaxed route, asked for with the bound, tells whether the route improves on the best.
 --
 --   bound-low         the bound is below costLimit, as the cost of a Route of the plan is
---   Summed k w v      the summary v is of the relaxed route that the answer w has, and that costs at most k; or it costs more than k, and so
---                     does the relaxed route, if there is one
---   summed            so it is for a summary that was asked for with the bound k
---   improves-less, improves-more
---                     a route that costs at most the bound, and not as much as a best that is held, improves on the best; one that costs
---                     more than the bound does not
---   Tells b w t r k v what the summary v, asked for with the bound k, tells of the answer w and the best r, where t says whether one is held:
+--   Held b k o v      there is a relaxed route o, it costs at most k, and the summary v is of it
+--   Tells b o t r k v what the summary v, asked for with the bound k, tells of the relaxed route o and the best r, where t says whether one is held:
 --                     if it costs as much as the bound, there is a relaxed route (equal); if not, or if no best is held, that route improves
---                     on the best where the summary costs at most the bound (unequal); and one that does has the named belts and the cost of
---                     the summary (better)
+--                     on the best where the summary costs at most the bound (unequal); and one that does is the summary's (better)
 --   tells             so it does
+--   kept-in-size      a step leaves the room as large as it was
+--   held-few, held-back
+--                     where there is such a relaxed route it has at most 255 belts, and out of the room that its belts were put into it is read whole
 --   best-better       what becomes the best improves on it
 --
 -- Costs are compared first, and every route costs less than costLimit. Assumes nothing.
 use mathlib.Core.Path.{_≡_, refl, sym, _∙_, ap, subst}
 use mathlib.Core.Logic.{_⊎_, inl, inr}
-use mathlib.Core.Bool.{Bool, true, false, _&&_, true≢false}
+use mathlib.Core.Bool.{Bool, true, false, _||_, true≢false}
 use mathlib.Core.Option.{Option, none, some}
 use Prim.Native.Nat.{ℕ, _≤_, _<_}
 use mathlib.Core.List.{List}
 use native.Mathlib.Omega.{arith}
-use lib.Dec.{leb}
+use lib.ListN.{length, length-map}
+use lib.Dec.{eqb, leb}
 use borrow.Author.Tests.{leb-true, leb-false, le-leb, lt-leb, lt-ltb, le-ltb}
-use Rattle.plan.specs.Plan.{Belt, planOf}
+use Rattle.plan.specs.Plan.{Belt, planOf, namesOf}
 use Rattle.plan.specs.Reading.{Accepted, Bytes}
+use Rattle.plan.proofs.Lists.{test}
 use Rattle.route.specs.declared.path.Route.{Route}
 use Rattle.route.specs.declared.path.Trip.{Trip}
 use Rattle.route.specs.declared.relax.Fixings.{Fixings}
-use Rattle.route.specs.declared.relax.Relaxed.{Relaxed}
 use Rattle.route.specs.declared.relax.Summary.{Summary}
 use Rattle.route.specs.Routes.{wrongEnds, cost, costLimit, lower}
-use Rattle.route.specs.Subproblems.{relaxed}
-use Rattle.route.specs.Values.{Known, routeIn, subproblemIn, relaxedAs, atMost, summaryAs}
+use Rattle.route.specs.Values.{idsOf, Known, routeIn, routeOf, firstBelts, subproblemIn, atMost, summaryAs, keptOf}
+use Rattle.route.specs.Inner.{wayCost}
 use Rattle.route.proofs.ByName.{known-cheap, ends-junctions}
 use Rattle.route.proofs.Order.{first-ne}
+use Rattle.route.proofs.Bounded.{at-most-none, at-most-some, kept-size}
 use Rattle.route.proofs.Answered.{answer-claim}
 use Rattle.search.specs.declared.query.Query.{Query}
+use Rattle.search.specs.declared.state.Search.{Search}
 use Rattle.search.specs.declared.state.Judged.the-variants.{Best}
 use Rattle.search.specs.Search.{improves}
-use Rattle.search.specs.Values.{bestIn, boundOf}
-use Rattle.search.specs.Inner.{relaxedIn, betterIn, judgedIn}
+use Rattle.search.specs.Values.{bestIn, boundOf, boundIn, newestOf, relaxedIn, keptBy, keptIn}
+use Rattle.search.specs.Inner.{heldAs, betterIn, judgedIn}
 
 -- ---- the bound
 
@@ -51,18 +51,40 @@ bound-low ok bytes false best k = omega arith
 
 -- ---- the summary
 
-abbrev Summed : ℕ → Relaxed → Summary → Type 0
-Summed k w v =
-    ((w .found ≡ true) × (w .cost ≤ k) × (v .cost ≡ w .cost) × (v .named ≡ w .named)) ⊎ ((k < v .cost) × (w .found ≡ true → k < w .cost))
+pub record Held (b : List ℕ) (k : ℕ) (o : Option (List Belt)) (v : Summary) : Type 0 where
+  pub route : List Belt
+  pub is : o ≡ some route
+  pub low : cost route ≤ k
+  pub within : atMost k o ≡ some route
+  pub summary : v ≡ summaryAs b (some route)
 
-summed : (b : List ℕ) (k : ℕ) (o : Option (List Belt)) (v : Summary) → k < costLimit → v ≡ summaryAs b (atMost k o)
-    → Summed k (relaxedAs b o) v
-summed b k none v low e = subst (Summed k (relaxedAs b none)) (sym e) (inr (low, λ h. absurd (true≢false (sym h))))
-summed b k (some r) v low e = subst (Summed k (relaxedAs b (some r))) (sym e) (go (leb (cost r) k) refl)
+-- or it costs more than k, and so does the relaxed route, if there is one
+abbrev Summed : List ℕ → ℕ → Option (List Belt) → Summary → Type 0
+Summed b k o v = Held b k o v ⊎ ((k < v .cost) × ((r : List Belt) → o ≡ some r → k < cost r))
+
+summed : (b : List ℕ) (k : ℕ) (o : Option (List Belt)) (v : Summary) → k < costLimit → v ≡ summaryAs b (atMost k o) → Summed b k o v
+summed b k none v low e = inr (omega (arith, ap (λ (w : Summary). w .cost) e), λ r q. let z : _≡_ {A = ℕ} 0 1 = cc in absurd (omega arith))
+summed b k (some r) v low e = go (test (leb (cost r) k))
   where
-    go : (t : Bool) → leb (cost r) k ≡ t → Summed k (relaxedAs b (some r)) (summaryAs b (elim t [ true ↦ some r | false ↦ none ]))
-    go true h = inl (refl, leb-true (cost r) k h, refl, refl)
-    go false h = inr (low, λ l. leb-false (cost r) k h)
+    go : (leb (cost r) k ≡ true) ⊎ (leb (cost r) k ≡ false) → Summed b k (some r) v
+    go (inl h) =
+        let less = leb-true (cost r) k h in
+        let same = at-most-some k (some r) less in
+        inl (record { route = r; is = refl; low = less; within = same; summary = e ∙ ap (summaryAs b) same })
+    go (inr h) =
+        let more = leb-false (cost r) k h in
+        let lost = at-most-none k (some r) more in
+        inr (omega (arith, ap (λ (w : Summary). w .cost) (e ∙ ap (summaryAs b) lost)), λ q i. omega (arith, ap wayCost i, more))
+
+pub kept-in-size : (b : List ℕ) (q : Query) (v : Search) (room : List ℕ) → length (keptIn b q v room) ≡ length room
+kept-in-size b q v room = go (eqb (v .count) 0 || eqb (v .opened) (q .budget))
+  where
+    o : Option (List Belt)
+    o = atMost (boundIn b v) (relaxedIn b (q .trip) (newestOf v))
+
+    go : (t : Bool) → length (keptBy t o room) ≡ length room
+    go true = refl
+    go false = kept-size o room
 
 -- ---- whether it improves on the best
 
@@ -79,30 +101,30 @@ improves-more b r false best low l = absurd (omega arith)
 improves-more b r true best low l =
     first-ne (cost r) (cost (routeIn b best)) (lower r (routeIn b best)) (λ e. omega arith) ∙ le-ltb (cost r) (cost (routeIn b best)) (omega arith)
 
-pub record Tells (b : List ℕ) (w : Relaxed) (t : Bool) (best : Route) (k : ℕ) (v : Summary) : Type 0 where
-  pub equal : v .cost ≡ k → w .found ≡ true
-  pub unequal : (t ≡ true → v .cost ≡ k → ⊥) → leb (v .cost) k ≡ betterIn b w t best
-  pub better : betterIn b w t best ≡ true → (w .found ≡ true) × (v .named ≡ w .named) × (v .cost ≡ cost (routeIn b (w .route)))
+pub record Tells (b : List ℕ) (o : Option (List Belt)) (t : Bool) (best : Route) (k : ℕ) (v : Summary) : Type 0 where
+  pub equal : v .cost ≡ k → Held b k o v
+  pub unequal : (t ≡ true → v .cost ≡ k → ⊥) → leb (v .cost) k ≡ betterIn b o t best
+  pub better : betterIn b o t best ≡ true → Held b k o v
 
-module _ (b : List ℕ) (w : Relaxed) (t : Bool) (best : Route) (k : ℕ) (v : Summary) (bound : k ≡ boundOf (bestIn b t best))
-    (priced : w .found ≡ true → (w .cost ≡ cost (routeIn b (w .route))) × (w .cost < costLimit)) where
+module _ (b : List ℕ) (o : Option (List Belt)) (t : Bool) (best : Route) (k : ℕ) (v : Summary) (bound : k ≡ boundOf (bestIn b t best))
+    (cheap : (r : List Belt) → o ≡ some r → cost r < costLimit) where
   -- a route that costs more than the bound
-  dear : (w .found ≡ true → k < w .cost) → betterIn b w t best ≡ false
-  dear more = go (w .found) refl
+  dear : ((r : List Belt) → o ≡ some r → k < cost r) → betterIn b o t best ≡ false
+  dear more = go o refl
     where
-      go : (s : Bool) → w .found ≡ s → (s && improves (routeIn b (w .route)) (bestIn b t best)) ≡ false
-      go false h = refl
-      go true h = improves-more b (routeIn b (w .route)) t best (omega (arith, priced h .0, priced h .1)) (omega (arith, priced h .0, more h, bound))
+      go : (u : Option (List Belt)) → o ≡ u → betterIn b u t best ≡ false
+      go none q = refl
+      go (some r) q = improves-more b r t best (cheap r q) (omega (arith, more r q, bound))
 
-  sum-tells : Summed k w v → Tells b w t best k v
-  sum-tells (inl (found, low, costs, named)) =
-      let price = priced found .0 in
+  sum-tells : Summed b k o v → Tells b o t best k v
+  sum-tells (inl h) =
+      let price : v .cost ≡ cost (h .route) = ap (λ (w : Summary). w .cost) (h .summary) in
       record {
-        equal = λ e. found;
-        unequal = λ d. le-leb (v .cost) k (omega arith)
-            ∙ sym (ap (λ (s : Bool). s && improves (routeIn b (w .route)) (bestIn b t best)) found
-            ∙ improves-less b (routeIn b (w .route)) t best (omega (arith, price, bound)) (λ h e. d h (costs ∙ price ∙ e ∙ sym bound)));
-        better = λ h. (found, named, costs ∙ price);
+        equal = λ e. h;
+        unequal = λ d. le-leb (v .cost) k (omega (arith, h .low))
+            ∙ sym (ap (λ (u : Option (List Belt)). betterIn b u t best) (h .is)
+            ∙ improves-less b (h .route) t best (omega (arith, h .low, bound)) (λ g e. d g (price ∙ e ∙ sym bound)));
+        better = λ g. h;
       }
   sum-tells (inr (high, more)) = record {
     equal = λ e. absurd (omega arith);
@@ -110,25 +132,28 @@ module _ (b : List ℕ) (w : Relaxed) (t : Bool) (best : Route) (k : ℕ) (v : S
     better = λ h. absurd (true≢false (sym h ∙ dear more));
   }
 
-pub tells : {b : List ℕ} → Accepted b → Bytes b → (q : Trip) → wrongEnds (planOf b) (q .s) (q .t) ≡ false
-    → (f : Fixings) (t : Bool) (best : Route) → Known b best → (k : ℕ) → k ≡ boundOf (bestIn b t best) → (v : Summary)
-    → v ≡ summaryAs b (atMost k (relaxed (planOf b) (q .s) (q .t) (subproblemIn b f))) → Tells b (relaxedIn b q f) t best k v
-tells {b} ok bytes q ends f t best known k bound v e = sum-tells b w t best k v bound priced (summed b k o v low e)
-  where
-    o : Option (List Belt)
-    o = relaxed (planOf b) (q .s) (q .t) (subproblemIn b f)
+module _ {b : List ℕ} (ok : Accepted b) (bytes : Bytes b) (q : Trip) (ends : wrongEnds (planOf b) (q .s) (q .t) ≡ false) (f : Fixings) where
+  -- what is claimed of the relaxed route
+  claim : (r : List Belt) → relaxedIn b q f ≡ some r
+      → (cost r < costLimit) × Known b (routeOf r) × (idsOf (routeOf r) ≡ namesOf r) × (routeIn b (routeOf r) ≡ r)
+      × ((room : List ℕ) → length room ≡ 255 → firstBelts (length r) (keptOf (some r) room) ≡ routeOf r)
+  claim r e =
+      let inside = ends-junctions (planOf b) (q .s) (q .t) ends in
+      answer-claim b ok bytes (q .s) (q .t) (inside .0) (inside .3) (subproblemIn b f) r e
 
-    w : Relaxed
-    w = relaxedIn b q f
+  pub tells : (t : Bool) (best : Route) → Known b best → (k : ℕ) → k ≡ boundOf (bestIn b t best) → (v : Summary)
+      → v ≡ summaryAs b (atMost k (relaxedIn b q f)) → Tells b (relaxedIn b q f) t best k v
+  tells t best known k bound v e =
+      let low : k < costLimit = subst (λ (n : ℕ). n < costLimit) (sym bound) (bound-low ok bytes t best known) in
+      sum-tells b (relaxedIn b q f) t best k v bound (λ r i. claim r i .0) (summed b k (relaxedIn b q f) v low e)
 
-    low : k < costLimit
-    low = subst (λ (n : ℕ). n < costLimit) (sym bound) (bound-low ok bytes t best known)
+  module _ {k : ℕ} {v : Summary} (h : Held b k (relaxedIn b q f) v) where
+    pub held-few : v .count ≤ 255
+    held-few = omega (arith, ap (λ (w : Summary). w .count) (h .summary), claim (h .route) (h .is) .1 .few, length-map (h .route) (λ (e : Belt). e .name))
 
-    priced : w .found ≡ true → (w .cost ≡ cost (routeIn b (w .route))) × (w .cost < costLimit)
-    priced h =
-        let inside = ends-junctions (planOf b) (q .s) (q .t) ends in
-        let claim = answer-claim b ok bytes (q .s) (q .t) (inside .0) (inside .3) (subproblemIn b f) w refl h in
-        (claim .2, claim .3)
+    pub held-back : (room : List ℕ) → length room ≡ 255 → firstBelts (v .count) (keptOf (atMost k (relaxedIn b q f)) room) ≡ heldAs (relaxedIn b q f)
+    held-back room size =
+        (λ i. firstBelts (h .summary i .count) (keptOf (h .within i) room)) ∙ claim (h .route) (h .is) .4 room size ∙ sym (ap heldAs (h .is))
 
 pub best-better : (b : List ℕ) (q : Query) (f : Fixings) (r : Route) (t : Bool) → judgedIn b q f r t ≡ Best → t ≡ true
 best-better b q f r true h = refl

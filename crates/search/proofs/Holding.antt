@@ -7,7 +7,7 @@
 --   Taken b v f         a Search from which the subproblem of the masks f was taken: there is room for its children
 --   Settles .. r st j   with what is done, the Search is valid, and stands for the state st
 --   compared-settles    steps 3 to 6, where there is a relaxed route: so it is
---   newestOf, popped    the masks of the newest subproblem, and the Search without it, opened and counted
+--   popped v            the Search v without its newest subproblem, opened and counted
 --   newest-waits, count-few, popped-taken
 --                       the newest is the first that waits; at most 49 wait; without the newest there is room for its children
 --   first-state, first-valid
@@ -48,7 +48,7 @@ use Rattle.search.specs.declared.state.Judged.the-variants.{Drop, Best, 
 use Rattle.search.specs.Branching.{isFixed, unfixed, fixedCount, adding, requiring, forbidding, children, pickOf}
 use Rattle.search.specs.Search.{State, free, branched, settingOf, tested, compared, begun}
 use Rattle.search.specs.Answers.{problemIn}
-use Rattle.search.specs.Values.{pickedPlace, noFixings, firstSearch, waitingIn, stateIn, Deep, Valid}
+use Rattle.search.specs.Values.{pickedPlace, noFixings, firstSearch, waitingIn, stateIn, Deep, Valid, newestOf}
 use Rattle.search.specs.Inner.{childAt, branchAt, testedAs, judgedIn}
 use Rattle.search.proofs.Branches.{fixed-unfixed, picks-unfixed}
 use Rattle.search.proofs.Depth.{deep-tested, deep-begun, deep-few}
@@ -294,9 +294,6 @@ module _ {b : List ℕ} (ok : Accepted b) (v : Search) (size : length (v .waitin
     compared-settles false = record { room = tt; state = refl; valid = taken .valid }
 
 -- ---- the newest is taken
-
-abbrev pub newestOf : Search → Fixings
-newestOf v = getD (v .waiting) (v .count - 1) noFixings
 
 abbrev pub popped : Search → Search
 popped v = record {

@@ -1,8 +1,7 @@
 -- A step and a run, on what a Search stands for.
 --
 -- Step 3:
---   no-route              an answer that none is found means that there is no relaxed route
---   answered              an answer that one is found has it: it is of belts of the plan, the mask has its named ones, and what is not in use is 0
+--   answered              a relaxed route, as the code holds it: it is of belts of the plan, the mask has its named ones, and what is not in use is 0
 --   judged-settles        what is done with a subproblem that was taken is what steps 3 to 6 do
 -- A whole step:
 --   step-empty, step-spent, step-goes
@@ -16,23 +15,21 @@
 --
 -- Each goes by what was tested, clause by clause of the definition. Assumes nothing.
 use mathlib.Core.Path.{_≡_, refl, sym, _∙_, ap, subst}
-use mathlib.Core.Bool.{Bool, true, false, _&&_, true≢false}
+use mathlib.Core.Bool.{Bool, true, false}
 use mathlib.Core.Option.{Option, none, some}
 use Prim.Native.Nat.{ℕ, zero, suc, _+_, _-_, _≤_, _<_}
-use mathlib.Core.List.{List, []}
+use mathlib.Core.List.{List}
 use native.Mathlib.Omega.{arith}
 use lib.ListN.{length}
 use lib.Dec.{eqb}
 use borrow.Author.Tests.{eq-eqb, ne-eqb}
 use Rattle.plan.specs.Plan.{Belt, planOf, namesOf}
 use Rattle.plan.specs.Reading.{Accepted, Bytes}
-use Rattle.route.specs.declared.path.Route.{Route}
 use Rattle.route.specs.declared.relax.Fixings.{Fixings}
-use Rattle.route.specs.declared.relax.Relaxed.{Relaxed}
 use Rattle.route.specs.Routes.{wrongEnds}
 use Rattle.route.specs.Subproblems.{Subproblem, relaxed}
-use Rattle.route.specs.Values.{idsOf, packed, routeIn, subproblemIn, relaxedAs}
-use Rattle.route.proofs.ByName.{ends-junctions, ids-packed}
+use Rattle.route.specs.Values.{idsOf, packed, routeIn, routeOf, subproblemIn, maskOf}
+use Rattle.route.proofs.ByName.{ends-junctions}
 use Rattle.route.proofs.Answered.{answer-claim}
 use Rattle.search.specs.declared.query.Query.{Query}
 use Rattle.search.specs.declared.state.Search.{Search}
@@ -41,58 +38,32 @@ use Rattle.search.specs.declared.state.Ending.{Ending}
 use Rattle.search.specs.declared.state.Ending.the-variants.{GoesOn, Found, Nothing, Spent}
 use Rattle.search.specs.Search.{State, Turn, improves, considered, atEnd, budgeted, stepOf, step, runs, run}
 use Rattle.search.specs.Answers.{problemIn}
-use Rattle.search.specs.Values.{firstSearch, waitingIn, bestIn, stateIn, turnIn, Valid}
-use Rattle.search.specs.Inner.{OnRoute, endedAs, betterIn, judgedIn}
+use Rattle.search.specs.Values.{firstSearch, waitingIn, bestIn, stateIn, turnIn, Valid, newestOf, relaxedIn}
+use Rattle.search.specs.Inner.{OnRoute, endedAs, heldAs, betterIn, judgedIn}
 use Rattle.search.proofs.Steps.{run-goes, run-ends}
-use Rattle.search.proofs.Holding.{Taken, Settles, compared-settles, newestOf, popped, newest-waits, first-state, first-valid}
+use Rattle.search.proofs.Holding.{Taken, Settles, compared-settles, popped, newest-waits, first-state, first-valid}
 
 -- ---- the answer
 
-pub no-route : (b : List ℕ) (o : Option (List Belt)) (w : Relaxed) → w ≡ relaxedAs b o → w .found ≡ false → o ≡ none
-no-route b none w e h = refl
-no-route b (some r) w e h = absurd (true≢false (sym (ap (λ (v : Relaxed). v .found) e) ∙ h))
-
--- a route that was packed is 0 where it holds no belt
-packed-again : (r : Route) (es : List ℕ) → r ≡ packed es → r .count ≤ 255 → r ≡ packed (idsOf r)
-packed-again r es e few =
-    let size : r .count ≡ length es = ap (λ (v : Route). v .count) e in
-    e ∙ sym (ap packed (ap idsOf e ∙ ids-packed es (omega (arith, size, few))))
-
-answer-packed : (b : List ℕ) (o : Option (List Belt)) (w : Relaxed) → w ≡ relaxedAs b o → w .route .count ≤ 255 → w .route ≡ packed (idsOf (w .route))
-answer-packed b none w e few = packed-again (w .route) [] (ap (λ (v : Relaxed). v .route) e) few
-answer-packed b (some r) w e few = packed-again (w .route) (namesOf r) (ap (λ (v : Relaxed). v .route) e) few
-
-pub answered : {b : List ℕ} → Accepted b → Bytes b → (s t : ℕ) → wrongEnds (planOf b) s t ≡ false → (x : Subproblem) (w : Relaxed)
-    → w ≡ relaxedAs b (relaxed (planOf b) s t x) → w .found ≡ true
-    → OnRoute b (w .named) (w .route) × (w .route ≡ packed (idsOf (w .route))) × (relaxed (planOf b) s t x ≡ some (routeIn b (w .route)))
-answered {b} ok bytes s t ends x w e h =
+pub answered : {b : List ℕ} → Accepted b → Bytes b → (s t : ℕ) → wrongEnds (planOf b) s t ≡ false → (x : Subproblem) (r : List Belt)
+    → relaxed (planOf b) s t x ≡ some r
+    → OnRoute b (maskOf b (namesOf r)) (routeOf r) × (routeOf r ≡ packed (idsOf (routeOf r))) × (routeIn b (routeOf r) ≡ r)
+answered {b} ok bytes s t ends x r e =
     let inside = ends-junctions (planOf b) s t ends in
-    let (known, is, costs, cheap, mask) = answer-claim b ok bytes s t (inside .0) (inside .3) x w e h in
-    (record { known = known; mask = mask }, answer-packed b (relaxed (planOf b) s t x) w e (known .few), is)
+    let (cheap, known, ids, same, stands) = answer-claim b ok bytes s t (inside .0) (inside .3) x r e in
+    (record { known = known; mask = ap (maskOf b) (sym ids) }, ap packed (sym ids), same)
 
 -- ---- steps 3 to 6
 
 module _ {b : List ℕ} (ok : Accepted b) (bytes : Bytes b) (v : Search) (size : length (v .waiting) ≡ 49) (f : Fixings) (taken : Taken b v f) (q : Query)
-    (ends : wrongEnds (planOf b) (q .trip .s) (q .trip .t) ≡ false) (w : Relaxed) where
-  abbrev of-masks : Option (List Belt)
-  of-masks = relaxed (planOf b) (q .trip .s) (q .trip .t) (subproblemIn b f)
-
-  pub judged-settles : w ≡ relaxedAs b of-masks
-      → Settles b v f q (w .route) (considered (problemIn b q) (subproblemIn b f) (stateIn b v) of-masks) (judgedIn b q f (w .route) (betterIn b w (v .found) (v .best)))
-  judged-settles e = go (w .found) refl
-    where
-      by : Option (List Belt) → Bool → Type 0
-      by o t = Settles b v f q (w .route) (considered (problemIn b q) (subproblemIn b f) (stateIn b v) o) (judgedIn b q f (w .route) t)
-
-      better : Bool
-      better = improves (routeIn b (w .route)) (bestIn b (v .found) (v .best))
-
-      go : (t : Bool) → w .found ≡ t → by of-masks (t && better)
-      go false h =
-          subst (λ (o : Option (List Belt)). by o false) (sym (no-route b of-masks w e h)) (record { room = tt; state = refl; valid = taken .valid })
-      go true h =
-          let (on, rest-zero, is) = answered ok bytes (q .trip .s) (q .trip .t) ends (subproblemIn b f) w e h in
-          subst (λ (o : Option (List Belt)). by o better) (sym is) (compared-settles ok v size f taken q (w .route) (on .known) rest-zero better)
+    (ends : wrongEnds (planOf b) (q .trip .s) (q .trip .t) ≡ false) where
+  pub judged-settles : (o : Option (List Belt)) → relaxedIn b (q .trip) f ≡ o
+      → Settles b v f q (heldAs o) (considered (problemIn b q) (subproblemIn b f) (stateIn b v) o) (judgedIn b q f (heldAs o) (betterIn b o (v .found) (v .best)))
+  judged-settles none e = record { room = tt; state = refl; valid = taken .valid }
+  judged-settles (some r) e =
+      let (on, rest-zero, is) = answered ok bytes (q .trip .s) (q .trip .t) ends (subproblemIn b f) r e in
+      let by : List Belt → Type 0 = λ l. Settles b v f q (routeOf r) (considered (problemIn b q) (subproblemIn b f) (stateIn b v) (some l)) (judgedIn b q f (routeOf r) (improves l (bestIn b (v .found) (v .best)))) in
+      subst by is (compared-settles ok v size f taken q (routeOf r) (on .known) rest-zero (improves (routeIn b (routeOf r)) (bestIn b (v .found) (v .best))))
 
 -- ---- a step
 

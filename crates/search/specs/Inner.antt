@@ -12,8 +12,8 @@
 --   childAt f q t         the masks f with the place q required, too, or else forbidden
 --   branchAt q            what becomes of a subproblem that is branched on the belt at the place q: where there is none, it is dropped
 --   testedAs q o          the same where its relaxed route is tested first: o is the setting that works, if one does
---   relaxedIn b q f       the answer that stands for the relaxed route of the masks f for the trip q
---   betterIn b w t r      the answer w has a relaxed route, and it improves on the best r, where t says whether one is held
+--   heldAs o              the Route that holds the relaxed route o; an empty one where there is none
+--   betterIn b o t r      there is a relaxed route o, and it improves on the best r, where t says whether one is held
 --   judgedIn b q f r t    what becomes of the masks f with the relaxed route r, where t says whether that improves on the best
 -- Answers:
 --   bestOf b v            what a search that found its best route comes to
@@ -31,13 +31,10 @@ use Rattle.plan.specs.declared.named.Place.the-variants.{At, Unnamed}
 use Rattle.plan.specs.declared.read.Literal.{Literal}
 use Rattle.plan.specs.declared.read.Literal.the-variants.{OfBelt, OfMode}
 use Rattle.plan.specs.Lists.{counted, keep, upto}
-use Rattle.plan.specs.Plan.{planOf, named}
+use Rattle.plan.specs.Plan.{Belt, planOf, named}
 use Rattle.route.specs.declared.path.Route.{Route}
-use Rattle.route.specs.declared.path.Trip.{Trip}
 use Rattle.route.specs.declared.relax.Fixings.{Fixings}
-use Rattle.route.specs.declared.relax.Relaxed.{Relaxed}
-use Rattle.route.specs.Subproblems.{relaxed}
-use Rattle.route.specs.Values.{idsOf, Known, routeIn, inMask, withPlace, subproblemIn, maskOf, relaxedAs}
+use Rattle.route.specs.Values.{idsOf, packed, Known, routeIn, routeOf, inMask, withPlace, subproblemIn, maskOf}
 use Rattle.search.specs.declared.query.Query.{Query}
 use Rattle.search.specs.declared.state.Search.{Search}
 use Rattle.search.specs.declared.state.Ending.{Ending}
@@ -95,11 +92,13 @@ abbrev pub testedAs : Place → Option ℕ → Judged
 testedAs q (some σ) = Best
 testedAs q none = branchAt q
 
-abbrev pub relaxedIn : List ℕ → Trip → Fixings → Relaxed
-relaxedIn b q f = relaxedAs b (relaxed (planOf b) (q .s) (q .t) (subproblemIn b f))
+abbrev pub heldAs : Option (List Belt) → Route
+heldAs none = packed []
+heldAs (some r) = routeOf r
 
-abbrev pub betterIn : List ℕ → Relaxed → Bool → Route → Bool
-betterIn b w t best = w .found && improves (routeIn b (w .route)) (bestIn b t best)
+abbrev pub betterIn : List ℕ → Option (List Belt) → Bool → Route → Bool
+betterIn b none t best = false
+betterIn b (some r) t best = improves r (bestIn b t best)
 
 abbrev pub judgedIn : List ℕ → Query → Fixings → Route → Bool → Judged
 judgedIn b q f r false = Drop

@@ -17,25 +17,30 @@
 --                       what a search of the plan b goes by: it is accepted, `places` and `counts` are those of its named belts, `ends` and
 --                       `arcs` its belts side by side, `exits` the named belts that leave each junction, `clauses` its rules, and s and t are junctions
 --   stepIn b q v        one step of the query q from the state that a Search stands for
+--   newestOf v          the masks of the newest subproblem that waits
+--   relaxedIn b q f     the relaxed route of the masks f for the trip q
+--   keptIn b q v room   the array room after a step: if it opens a subproblem, with its relaxed route, if there is one within the bound (keptBy)
 --   requestOf b q out   the request of a call
 --
 -- Assumes nothing.
 use mathlib.Core.Path.{_≡_}
 use Prim.Native.Nat.{ℕ, zero, suc, _-_, _≤_}
-use mathlib.Core.Bool.{Bool, true, false}
+use mathlib.Core.Bool.{Bool, true, false, _||_}
 use mathlib.Core.Option.{Option, none, some}
 use mathlib.Core.List.{List, [], _∷_, _++_, map}
 use lib.ListN.{length, getD, replicate}
+use lib.Dec.{eqb}
 use Rattle.plan.specs.declared.named.Place.{Place}
 use Rattle.plan.specs.declared.named.Place.the-variants.{Unnamed}
 use Rattle.plan.specs.Plan.{Belt, Plan, planOf, named, placeOf}
 use Rattle.plan.specs.Adjacency.{arcsOf, endsOf}
 use Rattle.plan.specs.Reading.{Accepted}
 use Rattle.route.specs.declared.path.Route.{Route}
+use Rattle.route.specs.declared.path.Trip.{Trip}
 use Rattle.route.specs.declared.relax.Fixings.{Fixings}
 use Rattle.route.specs.Routes.{wrongEnds, cost, costLimit}
-use Rattle.route.specs.Subproblems.{Subproblem}
-use Rattle.route.specs.Values.{idsOf, packed, Known, routeIn, OfNamed, subproblemIn, namedPlaces, exitsOf, clausesOf}
+use Rattle.route.specs.Subproblems.{Subproblem, relaxed}
+use Rattle.route.specs.Values.{idsOf, packed, Known, routeIn, OfNamed, subproblemIn, namedPlaces, exitsOf, atMost, keptOf, clausesOf}
 use Rattle.search.specs.declared.query.Query.{Query}
 use Rattle.search.specs.declared.pick.Counts.{Counts}
 use Rattle.search.specs.declared.state.Search.{Search}
@@ -107,6 +112,20 @@ pub record Ready (b : List ℕ) (places ends arcs exits clauses : List ℕ) (cou
   pub ruled : clauses ≡ clausesOf b
   pub counted : counts ≡ countsOf b
   pub junctions : wrongEnds (planOf b) (q .trip .s) (q .trip .t) ≡ false
+
+abbrev pub newestOf : Search → Fixings
+newestOf v = getD (v .waiting) (v .count - 1) noFixings
+
+abbrev pub relaxedIn : List ℕ → Trip → Fixings → Option (List Belt)
+relaxedIn b q f = relaxed (planOf b) (q .s) (q .t) (subproblemIn b f)
+
+-- by whether the step ends the search
+abbrev pub keptBy : Bool → Option (List Belt) → List ℕ → List ℕ
+keptBy true o room = room
+keptBy false o room = keptOf o room
+
+abbrev pub keptIn : List ℕ → Query → Search → List ℕ → List ℕ
+keptIn b q v room = keptBy (eqb (v .count) 0 || eqb (v .opened) (q .budget)) (atMost (boundIn b v) (relaxedIn b (q .trip) (newestOf v))) room
 
 abbrev pub stepIn : List ℕ → Query → Search → Turn
 stepIn b q v = step (problemIn b q) (q .budget) (stateIn b v)

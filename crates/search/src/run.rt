@@ -26,6 +26,7 @@ pub fn run(
     ensures { λ v. ⌜ (turnIn (now (p .entry)) v ≡ run (problemIn (now (p .entry)) query) (query .budget)) × Valid (now (p .entry)) (v .search) × (v .bound ≡ boundIn (now (p .entry)) (v .search)) ⌝ }
 {
     let mut ways = [0u64; 257];
+    let mut kept = [0u16; 255];
     let mut stepped = Stepped {
         search: state::begin(),
         ending: Ending::GoesOn,
@@ -46,6 +47,7 @@ pub fn run(
                     query,
                     stepped.bound,
                     &mut ways,
+                    &mut kept,
                 );
             }
             Ending::Found => return stepped,

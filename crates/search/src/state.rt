@@ -9,22 +9,18 @@ use route::modes;
 use route::modes::Lowest;
 use route::path;
 use route::path::Route;
-use route::path::Trip;
 use route::relax;
 use route::relax::Fixings;
 ghost use mathlib.Core.Path.{_≡_};
-ghost use mathlib.Core.Bool.{true, false};
+ghost use mathlib.Core.Bool.{true};
 ghost use Prim.Native.Nat.{_≤_, _<_};
-ghost use lib.ListN.{replicate};
+ghost use lib.ListN.{length, replicate};
 ghost use Rattle.plan.specs.declared.named.Place.the-variants.{At};
-ghost use Rattle.plan.specs.Plan.{planOf};
-ghost use Rattle.plan.specs.Adjacency.{arcsOf, endsOf};
 ghost use Rattle.plan.specs.Reading.{Accepted};
 ghost use Rattle.route.specs.declared.path.Route.{Route};
-ghost use Rattle.route.specs.Routes.{wrongEnds};
-ghost use Rattle.route.specs.Values.{Known, OfNamed, namedPlaces, exitsOf, clausesOf};
-ghost use Rattle.search.specs.Values.{countsOf, turnIn, Valid, boundIn, firstSearch, noFixings, Ready, stepIn};
-ghost use Rattle.search.specs.Inner.{OnRoute, endedAs, childAt, relaxedIn, betterIn, judgedIn};
+ghost use Rattle.route.specs.Values.{OfNamed, clausesOf};
+ghost use Rattle.search.specs.Values.{countsOf, turnIn, Valid, boundIn, firstSearch, noFixings, Ready, stepIn, keptIn};
+ghost use Rattle.search.specs.Inner.{OnRoute, endedAs, childAt, judgedIn};
 
 // A search: the subproblems that wait are the first `count` of the array, the newest last; how many have been opened; and the best route
 // so far, if one is found. What is not in use is 0. It is handed on by value, and holds nothing that follows from the rest of it.
@@ -106,24 +102,6 @@ fn ended(count: usize, found: bool) -> Ending
     Ending::Nothing
 }
 
-// Step 3 where the relaxed route of a subproblem costs as much as the best: whether it comes before it.
-fn precedes(
-    p: &[u8],
-    places: &[u8; 2048],
-    ends: &[u16; 257],
-    arcs: &[u64; 2048],
-    exits: &[u64; 257],
-    trip: Trip,
-    fixings: Fixings,
-    best: Route,
-) -> bool
-    requires { ⌜ Accepted (now p) × (now places ≡ namedPlaces (now p)) × (now ends ≡ endsOf (planOf (now p))) × (now arcs ≡ arcsOf (planOf (now p))) × (now exits ≡ exitsOf (now p)) × (wrongEnds (planOf (now p)) (trip .s) (trip .t) ≡ false) × OfNamed (now p) (fixings .required) × (relaxedIn (now p) trip fixings .found ≡ true) × Known (now p) best ⌝ }
-    ensures { λ v. ⌜ v ≡ betterIn (now (p .entry)) (relaxedIn (now (p .entry)) trip fixings) true best ⌝ }
-{
-    let relaxed = relax::relaxed_route(p, places, ends, arcs, exits, trip, fixings);
-    path::before(p, relaxed.route, best)
-}
-
 // What becomes of a subproblem whose relaxed route has the named belts of the mask: steps 4 to 6, if `better` says that there is such a route and it
 // improves on the best.
 fn judge(
@@ -174,9 +152,10 @@ fn child(fixings: Fixings, k: usize, required: bool) -> Fixings
 impl Search {
     // One step. What is lent is made once for all steps: the places of the plan's named belts (plan::named::named_places), its belts side by side
     // (plan::adjacency::decode), the named belts that leave each junction (route::relax::exits), its rules (route::clauses::decode) and the counts
-    // (pick::rule_counts). `bound` is that of the search, as a step hands it back with it, and `ways` is room to work in, all 0 before and after.
-    // The search is changed here alone: each function that it were handed on to would copy it. A relaxed route is asked for only where its cost
-    // does not decide, or where it becomes the best.
+    // (pick::rule_counts). `bound` is that of the search, as a step hands it back with it. `ways` and `kept` are room to work in: `ways` is all 0 before
+    // and after, and `kept` has the relaxed route of the subproblem that was opened, over what it had before.
+    // The search is changed here alone: each function that it were handed on to would copy it. The relaxed route is read out of `kept` only where its
+    // cost does not decide, or where it becomes the best.
     pub fn step(
         mut self,
         p: &[u8],
@@ -189,9 +168,10 @@ impl Search {
         query: Query,
         mut bound: u64,
         ways: &mut [u64; 257],
+        kept: &mut [u16; 255],
     ) -> Stepped
-        requires { ⌜ Ready (now p) (now places) (now ends) (now arcs) (now exits) (now clauses) counts query × Valid (now p) self × (self .opened ≤ query .budget) × (bound ≡ boundIn (now p) self) × (now ways ≡ replicate 257 0) ⌝ }
-        ensures { λ v. ⌜ (turnIn (now (p .entry)) v ≡ stepIn (now (p .entry)) query self) × Valid (now (p .entry)) (v .search) × (v .bound ≡ boundIn (now (p .entry)) (v .search)) × (now (ways .exit) ≡ now (ways .entry)) ⌝ }
+        requires { ⌜ Ready (now p) (now places) (now ends) (now arcs) (now exits) (now clauses) counts query × Valid (now p) self × (self .opened ≤ query .budget) × (bound ≡ boundIn (now p) self) × (now ways ≡ replicate 257 0) × (length (now kept) ≡ 255) ⌝ }
+        ensures { λ v. ⌜ (turnIn (now (p .entry)) v ≡ stepIn (now (p .entry)) query self) × Valid (now (p .entry)) (v .search) × (v .bound ≡ boundIn (now (p .entry)) (v .search)) × (now (ways .exit) ≡ now (ways .entry)) × (now (kept .exit) ≡ keptIn (now (p .entry)) query self (now (kept .entry))) ⌝ }
     {
         if self.count == 0 || self.opened == query.budget {
             return Stepped {
@@ -209,17 +189,27 @@ impl Search {
         self.count = top;
         self.opened += 1;
         let trip = query.trip;
-        let summary = relax::summarize(p, places, ends, arcs, exits, trip, fixings, bound, ways);
+        let summary = relax::relaxed_route(
+            p,
+            places,
+            ends,
+            arcs,
+            exits,
+            trip,
+            fixings,
+            bound,
+            ways,
+            kept,
+        );
         let mut better = summary.cost <= bound;
         if self.found && summary.cost == bound {
-            better = precedes(p, places, ends, arcs, exits, trip, fixings, self.best);
+            better = path::before(p, path::of_belts(kept, summary.count), self.best);
         }
         let judged = judge(p, clauses, counts, query, fixings, summary.named, better);
         match judged {
             Judged::Drop => {}
             Judged::Best => {
-                let relaxed = relax::relaxed_route(p, places, ends, arcs, exits, trip, fixings);
-                let route = relaxed.route;
+                let route = path::of_belts(kept, summary.count);
                 self.best = route;
                 self.found = true;
                 bound = summary.cost;

@@ -11,15 +11,12 @@ named-belts-requires c κs = search needs
 within-requires : tie.Need-within-requires
 within-requires c κs = search needs
 
-relaxed-over-requires : tie.Need-relaxed-over-requires
-relaxed-over-requires c κs =
+print-over-requires : tie.Need-print-over-requires
+print-over-requires c κs =
     let named = c .before .before .before .before in
     let start = named .before .before in
     let low = c .before .within .ensures (c .if3 .taken) in
     (start .pre .0, start .pre .1, start .pre .2, subst (λ (n : ℕ). start .args .required .bits < 2 ^ n) (named .named-belts .ensures .0) low)
-
-print-relaxed-requires : tie.Need-print-relaxed-requires
-print-relaxed-requires c κs = search needs
 
 returns : tie.Need-returns
 returns c = search needs
@@ -39,8 +36,7 @@ print-fixed-spec =
     (tie.spec
     named-belts-requires
     within-requires
-    relaxed-over-requires
-    print-relaxed-requires
+    print-over-requires
     returns
     slice-aggregate-write-all
     write-all-requires

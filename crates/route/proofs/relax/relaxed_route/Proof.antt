@@ -1,5 +1,7 @@
--- `relax::relaxed_route` meets its contract: the way on from s, where there is one, is walked. Assumes nothing.
-use mathlib.Core.Path.{_≡_, refl, sym, _∙_, ap}
+-- `relax::relaxed_route` meets its contract: the way on from s, where there is one within the bound, is walked, and what the pass left is cleared. Assumes
+-- nothing.
+use mathlib.Core.Path.{_≡_, sym, _∙_, ap}
+use mathlib.Core.Logic.{⊎-elim}
 use mathlib.Core.Option.{Option}
 use Prim.Native.Nat.{_≤_}
 use mathlib.Core.List.{List}
@@ -7,12 +9,12 @@ use native.Mathlib.Omega.{arith}
 use borrow.Author.Needs.{needs}
 use borrow.Author.Tests.{not-true, not-false}
 use Rattle.plan.specs.Plan.{Belt, planOf}
+use Rattle.plan.proofs.Reading.{plan-sizes}
 use Rattle.route.specs.Subproblems.{relaxed}
-use Rattle.route.specs.Values.{subproblemIn, relaxedAs, atMost}
+use Rattle.route.specs.Values.{subproblemIn, atMost, summaryAs, keptOf}
 use Rattle.route.specs.Inner.{wayIn, wayCost}
 use Rattle.route.proofs.ByName.{ends-junctions}
-use Rattle.route.proofs.Bounded.{at-most-low, at-most-lost, at-most-found}
-use Rattle.route.proofs.Ways.{way-low}
+use Rattle.route.proofs.Bounded.{at-most-lost, at-most-found}
 use Rattle.route.proofs.relax.relaxed_route.Statement.{statement}
 use Rattle.route.proofs.relax.relaxed_route.Tie as tie
 
@@ -30,7 +32,12 @@ nothing-requires c κs = search needs
 returns : tie.Need-returns
 returns c =
     let asked = c .before .before in
-    c .nothing .ensures ∙ ap (relaxedAs _) (sym (asked .may-lead .ensures .1 (not-true _ (c .before .if1 .taken))))
+    let from = asked .before .before in
+    let lost = sym (asked .may-lead .ensures .1 (not-true _ (c .before .if1 .taken))) in (
+      c .nothing .ensures ∙ ap (λ (o : Option (List Belt)). summaryAs (from .args .p .now) (atMost (from .args .bound) o)) lost,
+      search needs,
+      ap (λ (o : Option (List Belt)). keptOf (atMost (from .args .bound) o) (from .args .kept .now)) lost,
+    )
 
 ways-to-requires : tie.Need-ways-to-requires
 ways-to-requires c κs =
@@ -38,7 +45,7 @@ ways-to-requires c κs =
     let from = asked .before .before in
     let h = from .pre in
     let forward = asked .may-lead .ensures .0 (not-false _ (c .before .if1 .left)) .0 in
-    (record { accepted = h .0; placed = h .1; ended = h .2; listed = h .3 }, h .4, ends from .0, forward, ends from .3, h .6, omega arith, refl)
+    (record { accepted = h .0; placed = h .1; ended = h .2; listed = h .3 }, h .4, ends from .0, forward, ends from .3, h .6, h .7, h .8)
 
 -- the pass was asked for where the way on from s is the relaxed route
 abbrev asked : tie.After-ways-to → tie.After-may-lead
@@ -53,43 +60,50 @@ way c = let a = start c .args in wayIn (a .p .now) (a .fixings) (a .trip .t) (a 
 whole : (c : tie.After-ways-to) → let a = start c .args in way c ≡ relaxed (planOf (a .p .now)) (a .trip .s) (a .trip .t) (subproblemIn (a .p .now) (a .fixings))
 whole c = asked c .may-lead .ensures .0 (not-false _ (c .before .before .if1 .left)) .1
 
--- the bound drops no way
-free : (c : tie.After-ways-to) → atMost 281474976710655 (way c) ≡ way c
-free c =
-    let from = start c in
-    let a = from .args in
-    at-most-low 281474976710655 (way c) (λ r q.
-    let low = way-low (from .pre .0) (λ i. asked c .before .shared-slice-known .given i .fits) (subproblemIn (a .p .now) (a .fixings)) (a .trip .t) (ends from .3) (a .trip .s) r q in
-    omega arith)
+-- what is left of it by the bound
+abbrev kept : tie.After-ways-to → Option (List Belt)
+kept c = atMost (start c .args .bound) (way c)
 
 nothing-requires-2 : tie.Need-nothing-requires-2
 nothing-requires-2 c κs = search needs
 
-returns-2 : tie.Need-returns-2
-returns-2 c =
-    let found = c .before .before in
-    let lost = at-most-lost 281474976710655 (way found) (omega arith) (sym (found .ways-to .ensures .0) ∙ c .before .if2 .taken) in
-    c .nothing2 .ensures ∙ ap (relaxedAs _) (sym lost ∙ free found ∙ whole found)
-
 walk-requires : tie.Need-walk-requires
 walk-requires c κs =
-    let found = c .before .before in
+    let then = c .before .before in
+    let found = then .before .before in
     let from = start found in
     let is = found .ways-to .ensures in
-    let within = at-most-found 281474976710655 (way found) (λ q. c .before .if2 .left (is .0 ∙ q)) .1 in (
-      from .pre .0,
-      from .pre .1,
-      ends from .0,
-      ends from .3,
-      c .before .if2 .left,
-      is .0 ∙ ap wayCost (free found),
-      is .1 (omega (arith, is .0)),
-    )
+    let (same, within) = at-most-found (from .args .bound) (way found) (λ q. then .if2 .taken (is .0 ∙ q)) in
+    (from .pre .0, from .pre .1, ends from .0, ends from .3, then .if2 .taken, is .0 ∙ ap wayCost same, is .1 (omega (arith, is .0)))
 
-returns-3 : tie.Need-returns-3
-returns-3 c =
+clear-requires : tie.Need-clear-requires
+clear-requires c κs =
     let found = c .before .before .before in
-    c .walk .ensures ∙ ap (relaxedAs _) (whole found)
+    let from = start found in
+    (omega (arith, ends from .3, plan-sizes (from .pre .0) .1), found .ways-to .ensures .2)
+
+-- the answer and the room, for what is left by the bound
+returns-2 : tie.Need-returns-2
+returns-2 c =
+    let found = c .before .before .before .before in
+    let from = start found in
+    let a = from .args in
+    let is = found .ways-to .ensures .0 in
+    let room = a .kept .now in
+    let asks : Option (List Belt) → Option (List Belt) = λ o. atMost (a .bound) o in
+    let (summary, stored) : (c .before .before .if2 .summary ≡ summaryAs (a .p .now) (kept found)) × (c .before .before .if2 .kept ≡ keptOf (kept found) room) =
+    ⊎-elim
+    (λ w.
+    let same = sym (at-most-found (a .bound) (way found) (λ q. w .0 .taken (is ∙ q)) .0) in
+    (w .5 ∙ w .3 .ensures .0 ∙ ap (summaryAs (a .p .now)) same, w .4 ∙ w .3 .ensures .1 ∙ ap (λ (o : Option (List Belt)). keptOf o room) same))
+    (λ w.
+    let lost = sym (at-most-lost (a .bound) (way found) (from .pre .7) (sym is ∙ w .0 .left)) in
+    (w .2 ∙ c .before .before .before .nothing2 .ensures ∙ ap (summaryAs (a .p .now)) lost, w .1 ∙ ap (λ (o : Option (List Belt)). keptOf o room) lost))
+    (c .before .before .if2 .came) in (
+      summary ∙ ap (λ (o : Option (List Belt)). summaryAs (a .p .now) (asks o)) (whole found),
+      c .clear .ensures ∙ sym (from .pre .8),
+      stored ∙ ap (λ (o : Option (List Belt)). keptOf (asks o) room) (whole found),
+    )
 
 pub relaxed-route-spec : {M : Type 1} → statement M
 relaxed-route-spec =
@@ -100,6 +114,6 @@ relaxed-route-spec =
     returns
     ways-to-requires
     nothing-requires-2
-    returns-2
     walk-requires
-    returns-3)
+    clear-requires
+    returns-2)

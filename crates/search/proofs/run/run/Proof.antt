@@ -2,21 +2,22 @@
 -- is that of its search. Assumes nothing.
 use mathlib.Core.Path.{_≡_, refl, sym, _∙_, ap, subst}
 use Prim.Native.Nat.{_<_}
-use lib.ListN.{replicate}
+use lib.ListN.{length, replicate}
 use borrow.Author.Needs.{needs}
 use Rattle.search.specs.declared.state.Ending.{Ending}
 use Rattle.search.specs.declared.state.Ending.the-variants.{GoesOn, Found, Nothing, Spent}
 use Rattle.search.specs.Values.{boundIn}
+use Rattle.search.proofs.Bounds.{kept-in-size}
 use Rattle.search.proofs.Opening.{Running, running-first, Handed, left, handed, fewer}
 use Rattle.search.proofs.run.run.Statement.{statement}
 use Rattle.search.proofs.run.run.Tie as tie
 
 abbrev Inv-loop : tie.InvT-loop
-Inv-loop p places ends arcs exits clauses counts query ways₀ stepped₀ ways stepped =
-    Handed p query stepped (stepped .ending) × (stepped .bound ≡ boundIn p (stepped .search)) × (ways ≡ replicate 257 0)
+Inv-loop p places ends arcs exits clauses counts query ways₀ kept₀ stepped₀ ways kept stepped =
+    Handed p query stepped (stepped .ending) × (stepped .bound ≡ boundIn p (stepped .search)) × (ways ≡ replicate 257 0) × (length kept ≡ 255)
 
 abbrev μ-loop : tie.MeasureT-loop
-μ-loop p places ends arcs exits clauses counts query ways₀ stepped₀ ways stepped = left query stepped (stepped .ending)
+μ-loop p places ends arcs exits clauses counts query ways₀ kept₀ stepped₀ ways kept stepped = left query stepped (stepped .ending)
 
 begin-requires : tie.Need-begin-requires Inv-loop μ-loop
 begin-requires c κs = search needs
@@ -24,7 +25,7 @@ begin-requires c κs = search needs
 loop-holds : tie.Need-loop-holds Inv-loop μ-loop
 loop-holds c =
     let args = c .before .before .args in
-    (running-first (args .p .now) (args .query) (c .begin .result) (c .begin .ensures), ap (boundIn (args .p .now)) (sym (c .begin .ensures)), refl)
+    (running-first (args .p .now) (args .query) (c .begin .result) (c .begin .ensures), ap (boundIn (args .p .now)) (sym (c .begin .ensures)), refl, refl)
 
 enum-told : tie.Need-enum-told Inv-loop μ-loop
 enum-told c = search needs
@@ -41,13 +42,13 @@ goes c = at-ending (c .before .before) GoesOn (c .enum-told .given .1)
 
 step-requires : tie.Need-step-requires Inv-loop μ-loop
 step-requires c κs =
-    let told = c .before in
+    let told = c .before .before in
     let at = told .before .before in
-    (at .before .before .before .pre, goes told .valid, goes told .within, at .loop .inv .1, at .loop .inv .2)
+    (at .before .before .before .pre, goes told .valid, goes told .within, at .loop .inv .1, at .loop .inv .2, at .loop .inv .3)
 
 loop-less : tie.Need-loop-less Inv-loop μ-loop
 loop-less c =
-    let told = c .before .before in
+    let told = c .before .before .before in
     let at = told .before .before in
     let args = at .before .before .before .args in
     subst (λ (e : Ending). left (args .query) (c .step .result) (c .step .result .ending) < left (args .query) (at .loop .stepped) e) (sym (told .enum-told .given .1))
@@ -55,11 +56,11 @@ loop-less c =
 
 loop-again : tie.Need-loop-again Inv-loop μ-loop
 loop-again c =
-    let told = c .before .before in
+    let told = c .before .before .before in
     let at = told .before .before in
     let args = at .before .before .before .args in
-    let (turn, valid, bound, same) = c .step .ensures in
-    (handed (args .p .now) (args .query) (goes told) (c .step .result) turn valid, bound, same ∙ at .loop .inv .2)
+    let (turn, valid, bound, same, kept) = c .step .ensures in
+    (handed (args .p .now) (args .query) (goes told) (c .step .result) turn valid, bound, same ∙ at .loop .inv .2, ap length kept ∙ kept-in-size (args .p .now) (args .query) (at .loop .stepped .search) (at .loop .kept) ∙ at .loop .inv .3)
 
 enum-told-2 : tie.Need-enum-told-2 Inv-loop μ-loop
 enum-told-2 c = search needs

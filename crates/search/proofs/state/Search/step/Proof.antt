@@ -1,34 +1,38 @@
 -- `Search::step` meets its contract: the six steps, on what the Search stands for (Holding, Opening, Bounds). Assumes nothing.
-use mathlib.Core.Path.{_≡_, refl, sym, _∙_, ap, subst}
+use mathlib.Core.Path.{_≡_, refl, sym, _∙_, ap, subst, subst₂}
 use mathlib.Core.Logic.{⊎-elim}
-use mathlib.Core.Bool.{Bool, true}
+use mathlib.Core.Bool.{Bool, true, _||_, or-true}
+use mathlib.Core.Option.{Option}
 use Prim.Native.Nat.{ℕ, _+_, _-_, _≤_, _<_}
 use mathlib.Core.List.{List}
-use lib.ListN.{set, length-set}
+use lib.ListN.{length, set, length-set}
+use lib.Dec.{eqb}
 use native.Mathlib.Omega.{arith}
 use borrow.Author.Needs.{needs}
-use borrow.Author.Tests.{eqb-true, eqb-false}
-use Rattle.plan.specs.Plan.{planOf}
+use borrow.Author.Tests.{eqb-true, eqb-false, eq-eqb, ne-eqb}
+use Rattle.plan.specs.Plan.{Belt, planOf}
 use Rattle.plan.specs.Reading.{Bytes}
 use Rattle.plan.proofs.Lists.{never}
 use Rattle.route.specs.declared.path.Route.{Route}
 use Rattle.route.specs.declared.relax.Fixings.{Fixings}
-use Rattle.route.specs.declared.relax.Relaxed.{Relaxed}
-use Rattle.route.specs.Routes.{cost, costLimit}
+use Rattle.route.specs.declared.relax.Summary.{Summary}
+use Rattle.route.specs.Routes.{cost, costLimit, before}
 use Rattle.route.specs.Subproblems.{relaxed}
-use Rattle.route.specs.Values.{idsOf, routeIn, OfNamed, subproblemIn}
+use Rattle.route.specs.Values.{idsOf, Known, routeIn, OfNamed, subproblemIn, atMost, keptOf, firstBelts}
+use Rattle.route.proofs.Bounded.{kept-size}
 use Rattle.route.proofs.Holding.{known-low, mask-named}
 use Rattle.search.specs.declared.state.Search.{Search}
 use Rattle.search.specs.declared.state.Ending.{Ending}
 use Rattle.search.specs.declared.state.Ending.the-variants.{GoesOn}
 use Rattle.search.specs.declared.state.Judged.{Judged}
+use Rattle.search.specs.declared.state.Judged.the-variants.{Best}
 use Rattle.search.specs.Search.{considered}
 use Rattle.search.specs.Answers.{problemIn}
-use Rattle.search.specs.Values.{noFixings, stateIn, turnIn, boundIn, Valid, stepIn}
-use Rattle.search.specs.Inner.{OnRoute, relaxedIn, betterIn, judgedIn}
-use Rattle.search.proofs.Holding.{places, settledTo, Room, Taken, Settles, newestOf, popped, count-few, popped-taken}
+use Rattle.search.specs.Values.{noFixings, stateIn, turnIn, boundIn, Valid, stepIn, newestOf, relaxedIn, keptBy, keptIn}
+use Rattle.search.specs.Inner.{OnRoute, endedAs, heldAs, betterIn, judgedIn}
+use Rattle.search.proofs.Holding.{places, settledTo, Room, Taken, Settles, popped, count-few, popped-taken}
 use Rattle.search.proofs.Opening.{answered, judged-settles, step-empty, step-spent, step-goes}
-use Rattle.search.proofs.Bounds.{bound-low, Tells, tells, best-better}
+use Rattle.search.proofs.Bounds.{bound-low, Held, Tells, tells, held-few, held-back, best-better}
 use Rattle.search.proofs.state.Search.step.Statement.{statement}
 use Rattle.search.proofs.state.Search.step.Tie as tie
 
@@ -40,15 +44,22 @@ returns c =
     let start = c .before .before .before .before in
     let b = start .args .p .now in
     let q = start .args .query in
-    let v = start .args .self in (
-      ap (λ (e : Ending). record { state = stateIn b v; ending = e }) (c .ended .ensures)
-          ∙ ⊎-elim
-          (λ w. step-empty b q (q .budget) v (w .taken))
-          (λ w. step-spent b q (q .budget) v (w .0 .left) (eqb-true (v .opened) (q .budget) (w .3 .taken)))
-          (c .before .if1 .came),
+    let v = start .args .self in
+    let room = start .args .kept .now in
+    let kept : Bool → List ℕ = λ t. keptBy t (atMost (boundIn b v) (relaxedIn b (q .trip) (newestOf v))) room in
+    let (turn, same) : (record { state = stateIn b v; ending = endedAs (v .count) (v .found) } ≡ stepIn b q v) × (room ≡ keptIn b q v room) =
+    ⊎-elim
+    (λ w. (step-empty b q (q .budget) v (w .taken), sym (ap (λ (t : Bool). kept (t || eqb (v .opened) (q .budget))) (eq-eqb (v .count) 0 (w .taken)))))
+    (λ w. (
+      step-spent b q (q .budget) v (w .0 .left) (eqb-true (v .opened) (q .budget) (w .3 .taken)),
+      sym (ap kept ((λ i. eqb (v .count) 0 || w .3 .taken i) ∙ or-true (eqb (v .count) 0))),
+    ))
+    (c .before .if1 .came) in (
+      ap (λ (e : Ending). record { state = stateIn b v; ending = e }) (c .ended .ensures) ∙ turn,
       start .pre .1,
       start .pre .3,
       refl,
+      same,
     )
 
 sub-top : tie.Need-sub-top
@@ -97,9 +108,9 @@ taken c =
 bytes : (c : tie.Else2) → Bytes (start c .args .p .now)
 bytes c = λ i. c .before .before .before .before .before .shared-slice-known .given i .fits
 
-summarize-requires : tie.Need-summarize-requires
-summarize-requires c κs =
-    let goes = c .before .before .before .before .before .before .before in
+relaxed-route-requires : tie.Need-relaxed-route-requires
+relaxed-route-requires c κs =
+    let goes = c .before .before .before .before .before .before .before .before in
     let pre = start goes .pre in
     let ready = pre .0 in
     let low = bound-low (ready .accepted) (bytes goes) (now goes .found) (now goes .best) (pre .1 .known) in (
@@ -114,39 +125,78 @@ summarize-requires c κs =
       pre .4,
     )
 
--- the relaxed route of the newest, as it is answered
-abbrev answer : tie.Else2 → Relaxed
+-- the relaxed route of the newest
+abbrev answer : tie.Else2 → Option (List Belt)
 answer c = relaxedIn (start c .args .p .now) (start c .args .query .trip) (newestOf (now c))
 
 -- what the summary tells of it
-abbrev opened : tie.After-summarize → tie.Else2
-opened c = c .before .before .before .before .before .before .before .before
+abbrev opened : tie.After-relaxed-route → tie.Else2
+opened c = c .before .before .before .before .before .before .before .before .before
 
-told : (c : tie.After-summarize) → let goes = opened c in
-    Tells (start goes .args .p .now) (answer goes) (now goes .found) (now goes .best) (start goes .args .bound) (c .summarize .result)
+told : (c : tie.After-relaxed-route) → let goes = opened c in
+    Tells (start goes .args .p .now) (answer goes) (now goes .found) (now goes .best) (start goes .args .bound) (c .relaxed-route .result)
 told c =
     let goes = opened c in
     let pre = start goes .pre in
     let ready = pre .0 in
     tells (ready .accepted) (bytes goes) (start goes .args .query .trip) (ready .junctions) (newestOf (now goes)) (now goes .found) (now goes .best)
-    (pre .1 .known) (start goes .args .bound) (pre .3) (c .summarize .result) (c .summarize .ensures .0)
+    (pre .1 .known) (start goes .args .bound) (pre .3) (c .relaxed-route .result) (c .relaxed-route .ensures .0)
 
-precedes-requires : tie.Need-precedes-requires
-precedes-requires c κs =
+-- what the room has then: 255 places, out of which a relaxed route within the bound is read
+abbrev holds : tie.After-relaxed-route → List ℕ
+holds c = let goes = opened c in keptOf (atMost (start goes .args .bound) (answer goes)) (start goes .args .kept .now)
+
+holds-size : (c : tie.After-relaxed-route) → length (holds c) ≡ 255
+holds-size c = let from = start (opened c) in kept-size (atMost (from .args .bound) (answer (opened c))) (from .args .kept .now) ∙ from .pre .5
+
+abbrev Is-held : tie.After-relaxed-route → Type 0
+Is-held c = let goes = opened c in Held (start goes .args .p .now) (start goes .args .bound) (answer goes) (c .relaxed-route .result)
+
+few : (c : tie.After-relaxed-route) → Is-held c → c .relaxed-route .result .count ≤ 255
+few c held =
+    let goes = opened c in
+    let ready = start goes .pre .0 in
+    held-few (ready .accepted) (bytes goes) (start goes .args .query .trip) (ready .junctions) (newestOf (now goes)) held
+
+read : (c : tie.After-relaxed-route) → Is-held c → firstBelts (c .relaxed-route .result .count) (holds c) ≡ heldAs (answer (opened c))
+read c held =
+    let goes = opened c in
+    let ready = start goes .pre .0 in
+    held-back (ready .accepted) (bytes goes) (start goes .args .query .trip) (ready .junctions) (newestOf (now goes)) held (start goes .args .kept .now) (start goes .pre .5)
+
+-- it is of belts of the plan, and the mask has its named ones
+held-on : (c : tie.After-relaxed-route) (held : Is-held c) → let goes = opened c in let b = start goes .args .p .now in
+    OnRoute b (c .relaxed-route .result .named) (heldAs (answer goes)) × (routeIn b (heldAs (answer goes)) ≡ held .route)
+held-on c held =
+    let goes = opened c in
+    let b = start goes .args .p .now in
+    let ready = start goes .pre .0 in
+    let trip = start goes .args .query .trip in
+    let (on, zero, same) = answered (ready .accepted) (bytes goes) (trip .s) (trip .t) (ready .junctions) (subproblemIn b (newestOf (now goes))) (held .route) (held .is) in
+    (subst₂ (OnRoute b) (sym (ap (λ (v : Summary). v .named) (held .summary))) (sym (ap heldAs (held .is))) on, ap (λ (o : Option (List Belt)). routeIn b (heldAs o)) (held .is) ∙ same)
+
+-- there is one where it costs as much as the best
+equal : (c : tie.Then4) → Is-held (c .before .before .before .before)
+equal c =
     let asked = c .before .before .before .before in
-    let goes = opened asked in
-    let pre = start goes .pre in
-    let ready = pre .0 in (
-      ready .accepted,
-      ready .placed,
-      ready .ended,
-      ready .listed,
-      ready .left,
-      ready .junctions,
-      taken goes .required,
-      told asked .equal (eqb-true (asked .summarize .result .cost) (start goes .args .bound) (c .if4 .taken)),
-      pre .1 .known,
-    )
+    told asked .equal (eqb-true (asked .relaxed-route .result .cost) (start (opened asked) .args .bound) (c .if4 .taken))
+
+of-belts-requires : tie.Need-of-belts-requires
+of-belts-requires c κs =
+    let asked = c .before .before .before .before .before in
+    (few asked (equal (c .before)), ap length (asked .relaxed-route .ensures .2) ∙ holds-size asked)
+
+-- what is read is compared with the best
+compared : (c : tie.After-of-belts) → let asked = c .before .before .before .before .before .before in c .of-belts .result ≡ heldAs (answer (opened asked))
+compared c =
+    let asked = c .before .before .before .before .before .before in
+    c .of-belts .ensures ∙ ap (firstBelts (asked .relaxed-route .result .count)) (asked .relaxed-route .ensures .2) ∙ read asked (equal (c .before .before))
+
+before-requires : tie.Need-before-requires
+before-requires c κs =
+    let asked = c .before .before .before .before .before .before in
+    let pre = start (opened asked) .pre in
+    (pre .0 .accepted, subst (Known (start (opened asked) .args .p .now)) (sym (compared c)) (held-on asked (equal (c .before .before)) .0 .known), pre .1 .known)
 
 -- where the tests have met: whether its relaxed route improves on the best
 abbrev met : tie.Joined3-2 → tie.Else2
@@ -156,33 +206,35 @@ better-is : (c : tie.Joined3-2) → c .if3 .better ≡ betterIn (start (met c) .
 better-is c =
     let asked = c .before .before in
     let from = met c in
-    let better : Bool → Bool = λ t. betterIn (start from .args .p .now) (answer from) t (now from .best) in
+    let b = start from .args .p .now in
     ⊎-elim
-    (λ w. w .4 ∙ w .3 .ensures ∙ sym (ap better (w .0 .taken)))
+    (λ w.
+    let then : tie.Then4 = record { before = record { before = record { before = c .before; if3 = w .0 }; struct-known7 = w .1 }; if4 = w .2 } in
+    let held = equal then in
+    let best = routeIn b (now from .best) in
+    let read : tie.After-of-belts = record { before = record { before = then; of-belts-arg = w .3 }; of-belts = w .4 } in
+    w .6
+    ∙ w .5 .ensures
+    ∙ ap (λ (r : Route). before (routeIn b r) best) (compared read)
+    ∙ ap (λ (r : List Belt). before r best) (held-on asked held .1)
+    ∙ sym (λ i. betterIn b (held .is i) (w .0 .taken i) (now from .best)))
     (λ w. w .1 ∙ told asked .unequal
     (⊎-elim
-    (λ u h. eqb-false (asked .summarize .result .cost) (start from .args .bound) (u .2 .left))
+    (λ u h. eqb-false (asked .relaxed-route .result .cost) (start from .args .bound) (u .2 .left))
     (λ u h e. absurd (never h (u .left)))
     (w .0 .came)))
     (c .if3 .came)
 
 -- a relaxed route that improves on the best is of belts of the plan, and the mask has its named ones
 better-on : (c : tie.Joined3-2) → c .if3 .better ≡ true
-    → OnRoute (start (met c) .args .p .now) (c .before .before .summarize .result .named) (answer (met c) .route)
-better-on c h =
-    let from = met c in
-    let b = start from .args .p .now in
-    let ready = start from .pre .0 in
-    let trip = start from .args .query .trip in
-    let (found, named, costs) = told (c .before .before) .better (sym (better-is c) ∙ h) in
-    subst (λ (m : ℕ). OnRoute b m (answer from .route)) (sym named)
-    (answered (ready .accepted) (bytes from) (trip .s) (trip .t) (ready .junctions) (subproblemIn b (newestOf (now from))) (answer from) refl found .0)
+    → OnRoute (start (met c) .args .p .now) (c .before .before .relaxed-route .result .named) (heldAs (answer (met c)))
+better-on c h = held-on (c .before .before) (told (c .before .before) .better (sym (better-is c) ∙ h)) .0
 
 judge-requires : tie.Need-judge-requires
 judge-requires c κs =
     let from = start (met c) in
     let ready = from .pre .0 in
-    let route = answer (met c) .route in (
+    let route = heldAs (answer (met c)) in (
       ready .accepted,
       ready .ruled,
       ready .counted,
@@ -203,7 +255,7 @@ abbrev goes : tie.After-judge → tie.Else2
 goes c = met (c .before)
 
 abbrev route : tie.After-judge → Route
-route c = answer (goes c) .route
+route c = heldAs (answer (goes c))
 
 -- the Search once that is done
 abbrev settled : tie.After-judge → Judged → Search
@@ -245,11 +297,22 @@ done c w k e bound =
       bound,
     )
 
-relaxed-route-requires : tie.Need-relaxed-route-requires
-relaxed-route-requires c κs =
-    let from = goes (c .before .before) in
-    let ready = start from .pre .0 in
-    (ready .accepted, ready .placed, ready .ended, ready .listed, ready .left, ready .junctions, taken from .required)
+-- it becomes the best
+abbrev summarized : tie.After-judge → tie.After-relaxed-route
+summarized c = c .before .before .before
+
+best-held : (c : tie.After-judge) → c .judge .result ≡ Best → Is-held (summarized c)
+best-held c e =
+    let args = start (goes c) .args in
+    let better =
+    best-better (args .p .now) (args .query) (newestOf (now (goes c))) (route c) (c .before .if3 .better) (sym (c .judge .ensures (route c) (better-on (c .before))) ∙ e) in
+    told (summarized c) .better (sym (better-is (c .before)) ∙ better)
+
+of-belts-requires-2 : tie.Need-of-belts-requires-2
+of-belts-requires-2 c κs =
+    let judged = c .before .before .before in
+    let asked = summarized judged in
+    (few asked (best-held judged (c .before .enum-told2 .given .1)), ap length (asked .relaxed-route .ensures .2) ∙ holds-size asked)
 
 -- there is room for both children
 room : (c : tie.After-judged) → (now (goes (c .before .before)) .count - 1 ≤ 47) × (c .judged .given .0 .0 < 64)
@@ -289,12 +352,8 @@ popped-is c =
     let v = now (c .before .before .before .before) in
     λ i. record { waiting = set (v .waiting) (v .count - 1) (c .free .ensures i); count = v .count - 1; opened = v .opened + 1; best = v .best; found = v .found }
 
--- it becomes the best, and its cost the bound, or both stay
-abbrev summarized : tie.After-judge → tie.After-summarize
-summarized c = c .before .before .before
-
 abbrev freed : tie.After-judge → tie.After-free
-freed c = summarized c .before .before .before .before
+freed c = summarized c .before .before .before .before .before
 
 -- where the arms have met: the Search v with the subproblems ws waiting
 abbrev with-waiting : Search → List Fixings → Search
@@ -308,6 +367,7 @@ returns-2 c =
     let b = start from .args .p .now in
     let q = start from .args .query in
     let free = freed judged .free .ensures in
+    let asked = summarized judged in
     let same = start from .pre .3 in
     let ends = done judged (with-waiting (c .match .self) (c .match .waiting)) (c .match .bound) in
     let (turn, valid, bound) =
@@ -317,22 +377,20 @@ returns-2 c =
     (w .3 ∙ same ∙ sym (ap (boundIn b) (w .2))))
     (⊎-elim
     (λ w.
-    let asked = w .2 .ensures in
-    let better =
-    best-better b q (newestOf v) (route judged) (judged .before .if3 .better)
-    (sym (judged .judge .ensures (route judged) (better-on (judged .before))) ∙ w .1 .given .1) in
-    let costs = told (summarized judged) .better (sym (better-is (judged .before)) ∙ better) .2 in
+    let held = best-held judged (w .1 .given .1) in
+    let best = w .3 .ensures ∙ ap (firstBelts (asked .relaxed-route .result .count)) (asked .relaxed-route .ensures .2) ∙ read asked held in
+    let price : asked .relaxed-route .result .cost ≡ cost (held .route) = ap (λ (u : Summary). u .cost) (held .summary) in
     ends
     ((λ i. with-waiting (w .4 i) (w .6 i))
     ∙ (λ i. record {
       waiting = set (v .waiting) (v .count - 1) (free i);
       count = v .count - 1;
       opened = v .opened + 1;
-      best = asked i .route;
+      best = best i;
       found = true;
     })
     ∙ sym (ap (settled judged) (w .1 .given .1)))
-    (w .5 ∙ costs ∙ sym (ap (λ (r : Relaxed). cost (routeIn b (r .route))) asked) ∙ sym (ap (boundIn b) (w .4))))
+    (w .5 ∙ price ∙ sym (ap cost (ap (routeIn b) best ∙ held-on asked held .1)) ∙ sym (ap (boundIn b) (w .4))))
     (λ w.
     let older = w .4 .ensures in
     let newer = w .6 .ensures in
@@ -348,7 +406,16 @@ returns-2 c =
     ∙ sym (ap (settled judged) (w .1 .given .1)))
     (w .8 ∙ same ∙ sym (ap (boundIn b) (w .7)))))
     (c .match .came) in
-    (turn, valid, bound, summarized judged .summarize .ensures .1)
+    let goes-on : Bool → List ℕ = λ t. keptBy t (atMost (boundIn b v) (answer from)) (start from .args .kept .now) in
+    let waits = ne-eqb (v .count) 0 (from .before .before .before .if1 .left) in (
+      turn,
+      valid,
+      bound,
+      asked .relaxed-route .ensures .1,
+      asked .relaxed-route .ensures .2
+          ∙ ap (λ (k : ℕ). keptOf (atMost k (answer from)) (start from .args .kept .now)) same
+          ∙ sym (λ i. goes-on (waits i || from .if2 .left i)),
+    )
 
 pub step-spec : {M : Type 1} → statement M
 step-spec =
@@ -363,12 +430,13 @@ step-spec =
     mul-waiting
     array-set-from-waiting
     add-self
-    summarize-requires
-    precedes-requires
+    relaxed-route-requires
+    of-belts-requires
+    before-requires
     judge-requires
     enum-told
     enum-told-2
-    relaxed-route-requires
+    of-belts-requires-2
     enum-known-judged
     child-requires
     child-requires-2
