@@ -2,22 +2,26 @@
 --
 --   arc-parts          the parts of a belt's number are the belt's
 --   order-few          at most 2,047 belts are in order
+--   order-fit          there are no more of them than records of the plan
 --   order-next         how many belts leave junctions up to u, one junction further
 --   ends-at            the array of ends has that number for every junction
+--   arcs-fit           an array that has all arcs is no shorter than the belts in order
 --   arcs-of            the arcs of a junction are its belts
 --   arcsTo, endsTo     the arrays, filled for the junctions up to u
---   length-arcs        there are 2,048 arcs
+--   length-arcs        there are n arcs, if the belts in order are no more
 --   arcs-none, ends-none
 --                      before the first junction the arrays are fresh
 --   arcs-more, ends-more
 --                      one junction further
 --   arcs-all, ends-all for all junctions they are the whole arrays
+--   arcs-lent          what an array of n numbers holds, by its own length, if there are at most n records
+--   records-few        there are at most 2,048 records, of 12 bytes each
 --
 -- Assumes nothing.
 use mathlib.Core.Path.{_≡_, refl, sym, _∙_, ap}
 use mathlib.Core.Logic.{_⊎_, inl, inr}
 use mathlib.Core.Bool.{Bool, true, false}
-use Prim.Native.Nat.{ℕ, zero, suc, _+_, _-_, _<_, _≤_}
+use Prim.Native.Nat.{ℕ, zero, suc, _+_, _*_, _-_, _<_, _≤_}
 use mathlib.Core.List.{List, [], _∷_, _++_, map, List·Memᴰ, append-nil, append-assoc, map-append}
 use native.Mathlib.Omega.{arith}
 use native.Mathlib.Nat.{eq-or-lt-of-le}
@@ -29,10 +33,10 @@ use Rattle.plan.specs.Lists.{counted, count, run, upto}
 use Rattle.plan.specs.Records.{kind, junctions, records}
 use Rattle.plan.specs.Plan.{Belt, Plan, planOf, beltAt, beltRecords, leaving}
 use Rattle.plan.specs.Reading.{Accepted, Bytes}
-use Rattle.plan.specs.Adjacency.{arcOf, arcCost, arcHead, arcName, inOrder, arcsOf, endsOf}
+use Rattle.plan.specs.Adjacency.{arcOf, arcCost, arcHead, arcName, inOrder, arcsIn, endsOf}
 use Rattle.plan.proofs.Lists.{length-run, run-split, getD-run}
 use Rattle.plan.proofs.Counts.{length-keep, count-few}
-use Rattle.plan.proofs.Forms.{few}
+use Rattle.plan.proofs.Forms.{few, sized}
 use Rattle.plan.proofs.Places.{drop-replicate}
 use Rattle.plan.proofs.Accepted.{accepted-passed}
 use Rattle.plan.proofs.Reading.{plan-sizes, belt-of, belt-low, belt-ends, belts-cost}
@@ -91,16 +95,22 @@ order-rest p u (suc v) h = go (eq-or-lt-of-le h) (order-rest p u v)
         (es ++ leaving p (suc v), ap (λ (l : List Belt). l ++ leaving p (suc v)) q ∙ append-assoc (inOrder p u) es (leaving p (suc v)))
 
 module _ {b : List ℕ} (ok : Accepted b) where
-  belts-few : length (planOf b .belts) < 2048
+  -- the header and the junctions are no belts
+  belts-few : length (planOf b .belts) ≤ records b - suc (junctions b)
   unfolding planOf
   belts-few =
       let all = upto (suc (junctions b)) (records b) in
       let isBelt : ℕ → Bool = λ (r : ℕ). eqb (kind b r) 2 in
-      omega
-      (arith, length-map (beltRecords b) (beltAt b), length-keep isBelt all, count-few isBelt all, length-run (suc (junctions b)) (records b - suc (junctions b)), few b (accepted-passed b (ok .unrefused) .0 .0 .0 .0))
+      omega (arith, length-map (beltRecords b) (beltAt b), length-keep isBelt all, count-few isBelt all, length-run (suc (junctions b)) (records b - suc (junctions b)))
+
+  order-most : (u : ℕ) → length (inOrder (planOf b) u) ≤ records b - suc (junctions b)
+  order-most u = omega (arith, order-count (planOf b) u, count-few (λ (e : Belt). leb (e .leaves) u) (planOf b .belts), belts-few)
 
   pub order-few : (u : ℕ) → length (inOrder (planOf b) u) < 2048
-  order-few u = omega (arith, order-count (planOf b) u, count-few (λ (e : Belt). leb (e .leaves) u) (planOf b .belts), belts-few)
+  order-few u = omega (arith, order-most u, few b (accepted-passed b (ok .unrefused) .0 .0 .0 .0))
+
+  pub order-fit : (u : ℕ) → length (inOrder (planOf b) u) ≤ records b
+  order-fit u = omega (arith, order-most u)
 
   pub order-next : (u : ℕ) → length (inOrder (planOf b) (suc u)) ≡ length (inOrder (planOf b) u) + length (leaving (planOf b) (suc u))
   order-next u = length-append (inOrder (planOf b) u) (leaving (planOf b) (suc u))
@@ -115,15 +125,25 @@ module _ {b : List ℕ} (ok : Accepted b) where
       let e : 0 + u ≡ u = omega arith in
       List·getD-append (map ends (run 0 n)) (replicate (256 - p .junctions) 0) 0 u (omega arith) ∙ getD-run ends 0 n u 0 (omega arith) ∙ ap ends e
 
-  pub arcs-of : (u : ℕ) → suc u ≤ planOf b .junctions
-      → take (length (leaving (planOf b) (suc u))) (drop (length (inOrder (planOf b) u)) (arcsOf (planOf b))) ≡ map arcOf (leaving (planOf b) (suc u))
-  unfolding arcsOf
-  arcs-of u l =
+  pub arcs-fit : (n : ℕ) → length (arcsIn n (planOf b)) ≡ n → (u : ℕ) → u ≤ planOf b .junctions → length (inOrder (planOf b) u) ≤ n
+  unfolding arcsIn
+  arcs-fit n size u l =
+      let p = planOf b in
+      let all = inOrder p (p .junctions) in
+      let (es, q) = order-rest p u (p .junctions) l in
+      let fresh = replicate {A = ℕ} (n - length all) 0 in
+      let more = ap length q in
+      omega (arith, size, length-append (map arcOf all) fresh, length-map all arcOf, length-replicate {A = ℕ} (n - length all) 0, more, length-append (inOrder p u) es)
+
+  pub arcs-of : (n u : ℕ) → suc u ≤ planOf b .junctions
+      → take (length (leaving (planOf b) (suc u))) (drop (length (inOrder (planOf b) u)) (arcsIn n (planOf b))) ≡ map arcOf (leaving (planOf b) (suc u))
+  unfolding arcsIn
+  arcs-of n u l =
       let p = planOf b in
       let before = inOrder p u in
       let here = leaving p (suc u) in
       let (es, q) = order-rest p (suc u) (p .junctions) l in
-      let fresh = replicate {A = ℕ} (2048 - length (inOrder p (p .junctions))) 0 in
+      let fresh = replicate {A = ℕ} (n - length (inOrder p (p .junctions))) 0 in
       let rest = map arcOf es ++ fresh in
       let split : map arcOf (before ++ here ++ es) ++ fresh ≡ map arcOf before ++ (map arcOf here ++ rest) = simp (map-append, append-assoc) in
       ap (λ (o : List Belt). take (length here) (drop (length before) (map arcOf o ++ fresh))) q
@@ -133,8 +153,8 @@ module _ {b : List ℕ} (ok : Accepted b) where
 
 -- ---- the arrays, filled for the junctions up to u
 
-abbrev pub arcsTo : Plan → ℕ → List ℕ
-arcsTo p u = map arcOf (inOrder p u) ++ replicate (2048 - length (inOrder p u)) 0
+abbrev pub arcsTo : ℕ → Plan → ℕ → List ℕ
+arcsTo n p u = map arcOf (inOrder p u) ++ replicate (n - length (inOrder p u)) 0
 
 abbrev pub endsTo : Plan → ℕ → List ℕ
 endsTo p u = map (λ (v : ℕ). length (inOrder p v)) (run 0 (suc u)) ++ replicate (256 - u) 0
@@ -149,39 +169,44 @@ map-last f n =
     ∙ map-append f (run 0 n) (run (0 + n) 1)
     ∙ ap (λ (m : ℕ). map f (run 0 n) ++ (f m ∷ [])) at
 
-module _ (p : Plan) where
-  pub arcs-none : replicate 2048 0 ≡ arcsTo p 0
-  arcs-none = refl
+module _ (n : ℕ) (p : Plan) where
+  pub arcs-none : replicate n 0 ≡ arcsTo n p 0
+  arcs-none = let all : n ≡ n - 0 = omega arith in ap (λ (m : ℕ). replicate m 0) all
 
-  pub ends-none : replicate 257 0 ≡ endsTo p 0
-  ends-none = refl
-
-  pub length-arcs : (u : ℕ) → length (inOrder p u) ≤ 2048 → length (arcsTo p u) ≡ 2048
+  pub length-arcs : (u : ℕ) → length (inOrder p u) ≤ n → length (arcsTo n p u) ≡ n
   length-arcs u h =
-      let fresh = replicate {A = ℕ} (2048 - length (inOrder p u)) 0 in
-      omega (arith, length-append (map arcOf (inOrder p u)) fresh, length-map (inOrder p u) arcOf, length-replicate {A = ℕ} (2048 - length (inOrder p u)) 0)
+      let fresh = replicate {A = ℕ} (n - length (inOrder p u)) 0 in
+      omega (arith, length-append (map arcOf (inOrder p u)) fresh, length-map (inOrder p u) arcOf, length-replicate {A = ℕ} (n - length (inOrder p u)) 0)
 
   -- what stays fresh
   arcs-left : (u : ℕ)
-      → drop (length (inOrder p u) + length (leaving p (suc u))) (arcsTo p u) ≡ replicate (2048 - length (inOrder p (suc u))) 0
+      → drop (length (inOrder p u) + length (leaving p (suc u))) (arcsTo n p u) ≡ replicate (n - length (inOrder p (suc u))) 0
   arcs-left u =
       let before = inOrder p u in
       let here = leaving p (suc u) in
-      let fresh = replicate {A = ℕ} (2048 - length before) 0 in
-      let left : 2048 - length before - length here ≡ 2048 - length (before ++ here) = omega (arith, length-append before here) in
-      ap (λ (n : ℕ). drop (n + length here) (map arcOf before ++ fresh)) (sym (length-map before arcOf))
+      let fresh = replicate {A = ℕ} (n - length before) 0 in
+      let left : n - length before - length here ≡ n - length (before ++ here) = omega (arith, length-append before here) in
+      ap (λ (m : ℕ). drop (m + length here) (map arcOf before ++ fresh)) (sym (length-map before arcOf))
       ∙ drop-append-add (map arcOf before) fresh (length here)
-      ∙ drop-replicate (length here) (2048 - length before) 0
-      ∙ ap (λ (n : ℕ). replicate n 0) left
+      ∙ drop-replicate (length here) (n - length before) 0
+      ∙ ap (λ (m : ℕ). replicate m 0) left
 
   pub arcs-more : (u : ℕ)
-      → take (length (inOrder p u)) (arcsTo p u) ++ map arcOf (leaving p (suc u)) ++ drop (length (inOrder p u) + length (leaving p (suc u))) (arcsTo p u) ≡ arcsTo p (suc u)
+      → take (length (inOrder p u)) (arcsTo n p u) ++ map arcOf (leaving p (suc u)) ++ drop (length (inOrder p u) + length (leaving p (suc u))) (arcsTo n p u) ≡ arcsTo n p (suc u)
   arcs-more u =
       let before = inOrder p u in
       let here = leaving p (suc u) in
-      let fresh = replicate {A = ℕ} (2048 - length before) 0 in
+      let fresh = replicate {A = ℕ} (n - length before) 0 in
       (λ i. take-at (map arcOf before) fresh (length before) (length-map before arcOf) i ++ map arcOf here ++ arcs-left u i)
-      ∙ ap (λ (l : List ℕ). l ++ replicate (2048 - length (before ++ here)) 0) (sym (map-append arcOf before here))
+      ∙ ap (λ (l : List ℕ). l ++ replicate (n - length (before ++ here)) 0) (sym (map-append arcOf before here))
+
+  pub arcs-all : arcsTo n p (p .junctions) ≡ arcsIn n p
+  unfolding arcsIn
+  arcs-all = refl
+
+module _ (p : Plan) where
+  pub ends-none : replicate 257 0 ≡ endsTo p 0
+  ends-none = refl
 
   pub ends-more : (u : ℕ) → u < 256 → set (endsTo p u) (suc u) (length (inOrder p (suc u))) ≡ endsTo p (suc u)
   ends-more u h =
@@ -194,12 +219,20 @@ module _ (p : Plan) where
       ∙ sym (append-snoc low (ends (suc u)) rest)
       ∙ ap (λ (l : List ℕ). l ++ rest) (sym (map-last ends (suc u)))
 
-  pub arcs-all : arcsTo p (p .junctions) ≡ arcsOf p
-  unfolding arcsOf
-  arcs-all = refl
-
   pub ends-all : endsTo p (p .junctions) ≡ endsOf p
   unfolding endsOf
   ends-all =
       let e : suc (p .junctions) ≡ suc (p .junctions) - 0 = omega arith in
       ap (λ (n : ℕ). map (λ (v : ℕ). length (inOrder p v)) (run 0 n) ++ replicate (256 - p .junctions) 0) e
+
+-- ---- how much room there has to be
+
+module _ {b : List ℕ} (ok : Accepted b) where
+  pub arcs-lent : (n : ℕ) {arcs : List ℕ} → records b ≤ n → arcs ≡ arcsIn n (planOf b) → arcs ≡ arcsIn (length arcs) (planOf b)
+  arcs-lent n {arcs} h e =
+      let p = planOf b in
+      let size : length (arcsIn n p) ≡ n = ap length (sym (arcs-all n p)) ∙ length-arcs n p (p .junctions) (omega (arith, order-fit ok (p .junctions))) in
+      e ∙ sym (ap (λ (m : ℕ). arcsIn m p) (ap length e ∙ size))
+
+  pub records-few : (records b ≤ 2048) × (length b ≡ 12 * records b)
+  records-few = let one = accepted-passed b (ok .unrefused) .0 .0 .0 .0 in (few b one, sized b one .whole)

@@ -3,8 +3,8 @@
 --
 --   arcOf e         a belt in one number: its cost, where it leads, and its name; arcCost, arcHead, arcName: its parts
 --   inOrder p u     the belts that leave junctions 1 to u: junction by junction, those of each in rising index
---   arcsOf p        all belts in this order, as an array of 2,048 such numbers, the rest of it 0
---   endsOf p        how many belts leave junctions 1 to u, for each u from 0 on, as an array of 257: the belts of junction u stand in arcsOf from
+--   arcsIn n p      all belts in this order, as an array of n such numbers, the rest of it 0
+--   endsOf p        how many belts leave junctions 1 to u, for each u from 0 on, as an array of 257: the belts of junction u stand in arcsIn from
 --                   place (endsOf u - 1) on and before place (endsOf u); the rest of it is 0
 --
 -- Assumes nothing.
@@ -30,8 +30,8 @@ abbrev pub inOrder : Plan → ℕ → List Belt
 inOrder p zero = []
 inOrder p (suc u) = inOrder p u ++ leaving p (suc u)
 
-unfoldable pub arcsOf : Plan → List ℕ
-arcsOf p = map arcOf (inOrder p (p .junctions)) ++ replicate (2048 - length (inOrder p (p .junctions))) 0
+unfoldable pub arcsIn : ℕ → Plan → List ℕ
+arcsIn n p = map arcOf (inOrder p (p .junctions)) ++ replicate (n - length (inOrder p (p .junctions))) 0
 
 unfoldable pub endsOf : Plan → List ℕ
 endsOf p = map (λ (u : ℕ). length (inOrder p u)) (upto 0 (suc (p .junctions))) ++ replicate (256 - p .junctions) 0

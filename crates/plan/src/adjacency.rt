@@ -5,9 +5,10 @@ ghost use mathlib.Core.Path.{_≡_};
 ghost use mathlib.Core.List.{_++_, map};
 ghost use Prim.Native.Nat.{_+_, _≤_};
 ghost use lib.ListN.{length, take, drop, replicate};
+ghost use Rattle.plan.specs.Records.{records};
 ghost use Rattle.plan.specs.Plan.{planOf, leaving};
 ghost use Rattle.plan.specs.Reading.{Accepted};
-ghost use Rattle.plan.specs.Adjacency.{arcOf, arcCost, arcHead, arcName, arcsOf, endsOf};
+ghost use Rattle.plan.specs.Adjacency.{arcOf, arcCost, arcHead, arcName, arcsIn, endsOf};
 
 // The cost of an arc.
 pub fn cost(arc: u64) -> u64
@@ -31,8 +32,8 @@ pub fn name(arc: u64) -> BeltId
 }
 
 // Puts the belts that leave junction u behind the first `from` arcs, and answers how many there are then.
-fn put_leaving(p: &[u8], u: usize, from: usize, arcs: &mut [u64; 2048]) -> usize
-    requires { ⌜ Accepted (now p) × (1 ≤ u) × (u ≤ planOf (now p) .junctions) × (from + length (leaving (planOf (now p)) u) ≤ 2048) × (length (now arcs) ≡ 2048) ⌝ }
+fn put_leaving(p: &[u8], u: usize, from: usize, arcs: &mut [u64]) -> usize
+    requires { ⌜ Accepted (now p) × (1 ≤ u) × (u ≤ planOf (now p) .junctions) × (from + length (leaving (planOf (now p)) u) ≤ length (now arcs)) ⌝ }
     ensures { λ v. ⌜ (v ≡ from + length (leaving (planOf (now (p .entry))) u)) × (now (arcs .exit) ≡ take from (now (arcs .entry)) ++ map arcOf (leaving (planOf (now (p .entry))) u) ++ drop (from + length (leaving (planOf (now (p .entry))) u)) (now (arcs .entry))) ⌝ }
 {
     let mut count = from;
@@ -46,11 +47,11 @@ fn put_leaving(p: &[u8], u: usize, from: usize, arcs: &mut [u64; 2048]) -> usize
     count
 }
 
-// Puts the belts of an accepted plan side by side into `arcs`, which are all 0 before, and answers where those of each junction end: the belts that
-// leave junction u are the arcs from place ends[u - 1] on and before place ends[u]. Each belt is read once.
-pub fn decode(p: &[u8], arcs: &mut [u64; 2048]) -> [u16; 257]
-    requires { ⌜ Accepted (now p) × (now arcs ≡ replicate 2048 0) ⌝ }
-    ensures { λ v. ⌜ (v ≡ endsOf (planOf (now (p .entry)))) × (now (arcs .exit) ≡ arcsOf (planOf (now (p .entry)))) ⌝ }
+// Puts the belts of an accepted plan side by side into `arcs`, which are all 0 before and as many as the plan has records, or more, and answers where
+// those of each junction end: the belts that leave junction u are the arcs from place ends[u - 1] on and before place ends[u]. Each belt is read once.
+pub fn decode(p: &[u8], arcs: &mut [u64]) -> [u16; 257]
+    requires { ⌜ Accepted (now p) × (now arcs ≡ replicate (length (now arcs)) 0) × (records (now p) ≤ length (now arcs)) ⌝ }
+    ensures { λ v. ⌜ (v ≡ endsOf (planOf (now (p .entry)))) × (now (arcs .exit) ≡ arcsIn (length (now (arcs .entry))) (planOf (now (p .entry)))) ⌝ }
 {
     let mut ends = [0u16; 257];
     let last = read::junctions(p);

@@ -3,7 +3,7 @@
 --   Arc b a e              the number a is the arc of belt e of the plan b
 --   arc-place              the place of its belt is looked up by the arc's name, and has a bit in a mask
 --   arc-low                where it leads, and its name, are low
---   Span b arcs i n es     the arcs from place i on and before place n are the belts es of the plan b
+--   Span b arcs i n es     the arcs from place i on and before place n, which all are there, are the belts es of the plan b
 --   Left b arcs i n P      these belts pass P: what a loop over them keeps
 --   end-low                the places where the arcs of junctions end are low
 --   left-start             the arcs of a junction are the belts that leave it
@@ -24,7 +24,7 @@ use Rattle.plan.specs.Reading.{Accepted, Bytes}
 use Rattle.plan.proofs.Reading.{plan-sizes, leaving-in, belt-of, belt-low, belt-ends}
 use Rattle.route.specs.Values.{namedPlaces, LowPlace}
 use Rattle.route.specs.Inner.{Lent}
-use Rattle.plan.proofs.Arcs.{arc-parts, order-few, order-next, ends-at, arcs-of}
+use Rattle.plan.proofs.Arcs.{arc-parts, order-few, order-next, ends-at, arcs-fit, arcs-of}
 use Rattle.route.proofs.Fixed.{place-low, looked-up}
 
 -- ---- one arc
@@ -57,6 +57,7 @@ module _ {b : List ℕ} (ok : Accepted b) {a : ℕ} {e : Belt} (arc : Arc b a e)
 pub record Span (b arcs : List ℕ) (i n : ℕ) (es : List Belt) : Type 0 where
   reach : i + length es ≡ n
   pub few : n < 2048
+  pub fits : n ≤ length arcs
   belts : (e : Belt) → List·Memᴰ e es → List·Memᴰ e (planOf b .belts)
   stand : take (length es) (drop i arcs) ≡ map arcOf es
 
@@ -100,8 +101,9 @@ module _ {b : List ℕ} (ok : Accepted b) where
         span = record {
           reach = omega (arith, before, after, order-next ok v);
           few = omega (arith, after, order-few ok (suc v));
+          fits = omega (arith, after, arcs-fit ok (length arcs) (sym (ap length (lent .listed))) (suc v) high);
           belts = λ e m. leaving-in (planOf b) (suc v) e m .0;
-          stand = (λ i. take (length (leaving (planOf b) (suc v))) (drop (before i) (lent .listed i))) ∙ arcs-of ok v high;
+          stand = (λ i. take (length (leaving (planOf b) (suc v))) (drop (before i) (lent .listed i))) ∙ arcs-of ok (length arcs) v high;
         };
         passes = h;
       }
@@ -121,6 +123,7 @@ module _ {b : List ℕ} (ok : Accepted b) where
           span = record {
             reach = omega (arith, s .reach);
             few = s .few;
+            fits = s .fits;
             belts = λ f k. s .belts f (List·Memᴰ·tail k);
             stand = ap (λ (k : ℕ). take (length rest) (drop k arcs)) (add-one i) ∙ next;
           };

@@ -50,7 +50,7 @@ use lib.Dec.{eqb, leb, ltb}
 use Rattle.plan.specs.declared.read.BeltId.{BeltId}
 use Rattle.plan.specs.Lists.{all, keep, mem}
 use Rattle.plan.specs.Plan.{Belt, Plan, planOf, namesOf, beltId}
-use Rattle.plan.specs.Adjacency.{arcCost, arcHead, arcName, arcsOf, endsOf}
+use Rattle.plan.specs.Adjacency.{arcCost, arcHead, arcName, arcsIn, endsOf}
 use Rattle.plan.specs.Reading.{Accepted}
 use Rattle.plan.specs.declared.read.Literal.{Literal}
 use Rattle.plan.specs.declared.read.Literal.the-variants.{OfBelt, OfMode}
@@ -105,7 +105,7 @@ pub record Lent (b places ends arcs : List ℕ) : Type 0 where
   pub accepted : Accepted b
   pub placed : places ≡ namedPlaces b
   pub ended : ends ≡ endsOf (planOf b)
-  pub listed : arcs ≡ arcsOf (planOf b)
+  pub listed : arcs ≡ arcsIn (length arcs) (planOf b)
 
 abbrev pub isRequired : Subproblem → Belt → Bool
 isRequired x e = mem (e .name) (x .required)

@@ -21,11 +21,11 @@ ghost use mathlib.Core.Path.{_≡_};
 ghost use Prim.Native.Nat.{ℕ, _≤_, _<_};
 ghost use mathlib.Core.Bool.{true, false, not, _||_};
 ghost use mathlib.Core.Option.{none};
-ghost use lib.ListN.{getD, replicate};
+ghost use lib.ListN.{length, getD, replicate};
 ghost use lib.Dec.{ltb};
 ghost use Rattle.plan.specs.Lists.{any, upto};
 ghost use Rattle.plan.specs.Plan.{planOf, namesOf, leaving, placeIn, beltId};
-ghost use Rattle.plan.specs.Adjacency.{arcHead, arcName, arcsOf, endsOf};
+ghost use Rattle.plan.specs.Adjacency.{arcHead, arcName, arcsIn, endsOf};
 ghost use Rattle.plan.specs.Reading.{Accepted};
 ghost use Rattle.route.specs.Routes.{wrongEnds, costLimit};
 ghost use Rattle.route.specs.Subproblems.{relaxed};
@@ -102,7 +102,7 @@ fn by_required(
     p: &[u8],
     places: &[u8; 2048],
     ends: &[u16; 257],
-    arcs: &[u64; 2048],
+    arcs: &[u64],
     fixings: Fixings,
     ways: &[u64; 257],
     nearest: usize,
@@ -147,7 +147,7 @@ fn cheapest(
     p: &[u8],
     places: &[u8; 2048],
     ends: &[u16; 257],
-    arcs: &[u64; 2048],
+    arcs: &[u64],
     fixings: Fixings,
     ways: &[u64; 257],
     nearest: usize,
@@ -184,7 +184,7 @@ fn way_from(
     p: &[u8],
     places: &[u8; 2048],
     ends: &[u16; 257],
-    arcs: &[u64; 2048],
+    arcs: &[u64],
     exits: &[u64; 257],
     fixings: Fixings,
     ways: &[u64; 257],
@@ -207,7 +207,7 @@ fn ways_to(
     p: &[u8],
     places: &[u8; 2048],
     ends: &[u16; 257],
-    arcs: &[u64; 2048],
+    arcs: &[u64],
     exits: &[u64; 257],
     fixings: Fixings,
     bound: u64,
@@ -337,7 +337,7 @@ pub fn relaxed_route(
     p: &[u8],
     places: &[u8; 2048],
     ends: &[u16; 257],
-    arcs: &[u64; 2048],
+    arcs: &[u64],
     exits: &[u64; 257],
     trip: Trip,
     fixings: Fixings,
@@ -345,7 +345,7 @@ pub fn relaxed_route(
     ways: &mut [u64; 257],
     kept: &mut [u16; 255],
 ) -> Summary
-    requires { ⌜ Accepted (now p) × (now places ≡ namedPlaces (now p)) × (now ends ≡ endsOf (planOf (now p))) × (now arcs ≡ arcsOf (planOf (now p))) × (now exits ≡ exitsOf (now p)) × (wrongEnds (planOf (now p)) (trip .s) (trip .t) ≡ false) × OfNamed (now p) (fixings .required) × (bound < costLimit) × (now ways ≡ replicate 257 0) ⌝ }
+    requires { ⌜ Accepted (now p) × (now places ≡ namedPlaces (now p)) × (now ends ≡ endsOf (planOf (now p))) × (now arcs ≡ arcsIn (length (now arcs)) (planOf (now p))) × (now exits ≡ exitsOf (now p)) × (wrongEnds (planOf (now p)) (trip .s) (trip .t) ≡ false) × OfNamed (now p) (fixings .required) × (bound < costLimit) × (now ways ≡ replicate 257 0) ⌝ }
     ensures { λ v. ⌜ (v ≡ summaryAs (now (p .entry)) (atMost bound (relaxed (planOf (now (p .entry))) (trip .s) (trip .t) (subproblemIn (now (p .entry)) fixings)))) × (now (ways .exit) ≡ now (ways .entry)) × (now (kept .exit) ≡ keptOf (atMost bound (relaxed (planOf (now (p .entry))) (trip .s) (trip .t) (subproblemIn (now (p .entry)) fixings))) (now (kept .entry))) ⌝ }
 {
     if !may_lead(p, exits, trip, fixings) {
@@ -363,7 +363,7 @@ pub fn relaxed_route(
 }
 
 // The named belts that leave junction u, as a mask.
-fn exits_at(p: &[u8], places: &[u8; 2048], ends: &[u16; 257], arcs: &[u64; 2048], u: usize) -> u64
+fn exits_at(p: &[u8], places: &[u8; 2048], ends: &[u16; 257], arcs: &[u64], u: usize) -> u64
     requires { ⌜ Lent (now p) (now places) (now ends) (now arcs) × (1 ≤ u) × (u ≤ planOf (now p) .junctions) ⌝ }
     ensures { λ v. ⌜ v ≡ maskOf (now (p .entry)) (namesOf (leaving (planOf (now (p .entry))) u)) ⌝ }
 {
@@ -379,8 +379,8 @@ fn exits_at(p: &[u8], places: &[u8; 2048], ends: &[u16; 257], arcs: &[u64; 2048]
 }
 
 // The named belts that leave each junction of a plan, as masks. `places`, `ends` and `arcs` are those of the plan, as for `relaxed_route`.
-pub fn exits(p: &[u8], places: &[u8; 2048], ends: &[u16; 257], arcs: &[u64; 2048]) -> [u64; 257]
-    requires { ⌜ Accepted (now p) × (now places ≡ namedPlaces (now p)) × (now ends ≡ endsOf (planOf (now p))) × (now arcs ≡ arcsOf (planOf (now p))) ⌝ }
+pub fn exits(p: &[u8], places: &[u8; 2048], ends: &[u16; 257], arcs: &[u64]) -> [u64; 257]
+    requires { ⌜ Accepted (now p) × (now places ≡ namedPlaces (now p)) × (now ends ≡ endsOf (planOf (now p))) × (now arcs ≡ arcsIn (length (now arcs)) (planOf (now p))) ⌝ }
     ensures { λ v. ⌜ v ≡ exitsOf (now (p .entry)) ⌝ }
 {
     let last = read::junctions(p);

@@ -33,7 +33,7 @@ use lib.Dec.{eqb}
 use Rattle.plan.specs.declared.named.Place.{Place}
 use Rattle.plan.specs.declared.named.Place.the-variants.{Unnamed}
 use Rattle.plan.specs.Plan.{Belt, Plan, planOf, named, placeOf}
-use Rattle.plan.specs.Adjacency.{arcsOf, endsOf}
+use Rattle.plan.specs.Adjacency.{arcsIn, endsOf}
 use Rattle.plan.specs.Reading.{Accepted}
 use Rattle.route.specs.declared.path.Route.{Route}
 use Rattle.route.specs.declared.path.Trip.{Trip}
@@ -107,7 +107,7 @@ pub record Ready (b : List ℕ) (places ends arcs exits clauses : List ℕ) (cou
   pub accepted : Accepted b
   pub placed : places ≡ namedPlaces b
   pub ended : ends ≡ endsOf (planOf b)
-  pub listed : arcs ≡ arcsOf (planOf b)
+  pub listed : arcs ≡ arcsIn (length arcs) (planOf b)
   pub left : exits ≡ exitsOf b
   pub ruled : clauses ≡ clausesOf b
   pub counted : counts ≡ countsOf b

@@ -21,6 +21,7 @@ ghost use mathlib.Core.Bool.{false};
 ghost use Prim.Native.Nat.{_≤_};
 ghost use lib.ListN.{length};
 ghost use Rattle.plan.specs.Plan.{planOf};
+ghost use Rattle.plan.specs.Adjacency.{arcsIn, endsOf};
 ghost use Rattle.plan.specs.Reading.{Accepted};
 ghost use Rattle.plan.specs.Refusals.{numberOf};
 ghost use Rattle.route.specs.Routes.{wrongEnds};
@@ -109,20 +110,18 @@ fn write_best(
     Answer::Found(search.opened, length)
 }
 
-// The answer of a query that no line refuses.
-fn find_route(p: &[u8], query: Query, out: &mut [u8]) -> Answer
-    requires { ⌜ Accepted (now p) × (wrongEnds (planOf (now p)) (query .trip .s) (query .trip .t) ≡ false) × (3072 ≤ length (now out)) ⌝ }
+// The answer of a query that no line refuses. `ends` and `arcs` are the belts of the plan side by side (plan::adjacency::decode).
+fn find_over(p: &[u8], query: Query, ends: &[u16; 257], arcs: &[u64], out: &mut [u8]) -> Answer
+    requires { ⌜ Accepted (now p) × (wrongEnds (planOf (now p)) (query .trip .s) (query .trip .t) ≡ false) × (3072 ≤ length (now out)) × (now ends ≡ endsOf (planOf (now p))) × (now arcs ≡ arcsIn (length (now arcs)) (planOf (now p))) ⌝ }
     ensures { λ v. ⌜ Told (replyOf v) (now (out .entry)) (now (out .exit)) (unlessRefused 0 (requestOf (now (p .entry)) query (now (out .entry)))) ⌝ }
 {
     let list = named::named_belts(p);
     let places = named::places_among(p, list);
-    let mut arcs = [0u64; 2048];
-    let ends = adjacency::decode(p, &mut arcs);
-    let exits = relax::exits(p, &places, &ends, &arcs);
+    let exits = relax::exits(p, &places, ends, arcs);
     let mut clauses = [0u32; 2048];
     clauses::decode(p, &places, &mut clauses);
     let counts = pick::rule_counts(p, &places, list.count);
-    let stepped = run::run(p, &places, &ends, &arcs, &exits, &clauses, counts, query);
+    let stepped = run::run(p, &places, ends, arcs, &exits, &clauses, counts, query);
     let search = stepped.search;
     let ending = stepped.ending;
     match ending {
@@ -131,6 +130,21 @@ fn find_route(p: &[u8], query: Query, out: &mut [u8]) -> Answer
         Ending::Spent => Answer::Spent(search.opened),
         Ending::GoesOn => Answer::Spent(search.opened),
     }
+}
+
+// The same, with the belts decoded. An array is cleared whole for each query, so a plan of up to 256 records, as most are, has a smaller one.
+fn find_route(p: &[u8], query: Query, out: &mut [u8]) -> Answer
+    requires { ⌜ Accepted (now p) × (wrongEnds (planOf (now p)) (query .trip .s) (query .trip .t) ≡ false) × (3072 ≤ length (now out)) ⌝ }
+    ensures { λ v. ⌜ Told (replyOf v) (now (out .entry)) (now (out .exit)) (unlessRefused 0 (requestOf (now (p .entry)) query (now (out .entry)))) ⌝ }
+{
+    if p.len() <= 3072 {
+        let mut arcs = [0u64; 256];
+        let ends = adjacency::decode(p, &mut arcs);
+        return find_over(p, query, &ends, &arcs, out);
+    }
+    let mut arcs = [0u64; 2048];
+    let ends = adjacency::decode(p, &mut arcs);
+    find_over(p, query, &ends, &arcs, out)
 }
 
 // Answers a query. On a route its sheet is written to the start of the out buffer; else no byte of it changes.

@@ -161,7 +161,7 @@ impl Search {
         p: &[u8],
         places: &[u8; 2048],
         ends: &[u16; 257],
-        arcs: &[u64; 2048],
+        arcs: &[u64],
         exits: &[u64; 257],
         clauses: &[u32; 2048],
         counts: Counts,

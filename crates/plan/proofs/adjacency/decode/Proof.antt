@@ -7,15 +7,15 @@ use native.Mathlib.Numerals.{add-one}
 use lib.ListN.{length, take, drop, set}
 use borrow.Author.Needs.{needs}
 use Rattle.plan.specs.Plan.{planOf, leaving}
-use Rattle.plan.specs.Adjacency.{arcOf, inOrder, arcsOf, endsOf}
+use Rattle.plan.specs.Adjacency.{arcOf, inOrder, arcsIn, endsOf}
 use Rattle.plan.proofs.Reading.{plan-sizes}
-use Rattle.plan.proofs.Arcs.{order-few, order-next, arcsTo, endsTo, length-arcs, arcs-none, ends-none, arcs-more, ends-more, arcs-all, ends-all}
+use Rattle.plan.proofs.Arcs.{order-few, order-fit, order-next, arcsTo, endsTo, length-arcs, arcs-none, ends-none, arcs-more, ends-more, arcs-all, ends-all}
 use Rattle.plan.proofs.adjacency.decode.Statement.{statement}
 use Rattle.plan.proofs.adjacency.decode.Tie as tie
 
 abbrev Inv-loop : tie.InvT-loop
 Inv-loop p arcs₀ ends₀ last count₀ u₀ arcs ends count u =
-    (u ≤ last) × (count ≡ length (inOrder (planOf p) u)) × (ends ≡ endsTo (planOf p) u) × (arcs ≡ arcsTo (planOf p) u)
+    (u ≤ last) × (count ≡ length (inOrder (planOf p) u)) × (ends ≡ endsTo (planOf p) u) × (arcs ≡ arcsTo (length arcs₀) (planOf p) u)
 
 abbrev μ-loop : tie.MeasureT-loop
 μ-loop p arcs₀ ends₀ last count₀ u₀ arcs ends count u = last - u
@@ -25,26 +25,33 @@ junctions-requires c κs = search needs
 
 loop-holds : tie.Need-loop-holds Inv-loop μ-loop
 loop-holds c =
-    let start = c .before .before in
+    let start = c .before .before .before in
     let p = planOf (start .args .p .now) in
-    (omega arith, refl, ends-none p, start .pre .1 ∙ arcs-none p)
+    (omega arith, refl, ends-none p, start .pre .1 ∙ arcs-none (length (start .args .arcs .now)) p)
+
+-- there are as many arcs as before, and the belts fit
+same : (c : tie.At-loop Inv-loop μ-loop) → length (c .loop .arcs) ≡ length (c .before .before .before .before .args .arcs .now)
+same c =
+    let start = c .before .before .before .before in
+    ap length (c .loop .inv .3)
+    ∙ length-arcs (length (start .args .arcs .now)) (planOf (start .args .p .now)) (c .loop .u) (omega (arith, order-fit (start .pre .0) (c .loop .u), start .pre .2))
 
 -- a junction of the plan is still to come
-more : (c : tie.In-loop Inv-loop μ-loop) → c .before .loop .u < planOf (c .before .before .before .before .args .p .now) .junctions
+more : (c : tie.In-loop Inv-loop μ-loop) → c .before .loop .u < planOf (c .before .before .before .before .before .args .p .now) .junctions
 more c = omega (arith, c .loop-test .taken, c .before .before .junctions .ensures)
 
 few : (c : tie.In-loop Inv-loop μ-loop) → c .before .loop .u < 256
-few c = omega (arith, more c, plan-sizes (c .before .before .before .before .pre .0) .1)
+few c = omega (arith, more c, plan-sizes (c .before .before .before .before .before .pre .0) .1)
 
 add-u : tie.Need-add-u Inv-loop μ-loop
 add-u c = omega (arith, few c)
 
 -- the belts up to the next junction
 next : (c : tie.In-loop Inv-loop μ-loop)
-    → c .before .loop .count + length (leaving (planOf (c .before .before .before .before .args .p .now)) (c .before .loop .u + 1))
-    ≡ length (inOrder (planOf (c .before .before .before .before .args .p .now)) (suc (c .before .loop .u)))
+    → c .before .loop .count + length (leaving (planOf (c .before .before .before .before .before .args .p .now)) (c .before .loop .u + 1))
+    ≡ length (inOrder (planOf (c .before .before .before .before .before .args .p .now)) (suc (c .before .loop .u)))
 next c =
-    let start = c .before .before .before .before in
+    let start = c .before .before .before .before .before in
     let loop = c .before .loop in
     let p = planOf (start .args .p .now) in
     (λ i. loop .inv .1 i + length (leaving p (add-one (loop .u) i))) ∙ sym (order-next (start .pre .0) (loop .u))
@@ -52,56 +59,59 @@ next c =
 put-leaving-requires : tie.Need-put-leaving-requires Inv-loop μ-loop
 put-leaving-requires c κs =
     let at = c .before in
-    let start = at .before .before .before .before in
+    let start = at .before .before .before .before .before in
     let loop = at .before .loop in
-    let fit = order-few (start .pre .0) in (
-      start .pre .0,
-      omega arith,
-      omega (arith, more at),
-      omega (arith, next at, fit (suc (loop .u))),
-      ap length (loop .inv .3) ∙ length-arcs (planOf (start .args .p .now)) (loop .u) (omega (arith, fit (loop .u))),
-    )
+    let fit = order-fit (start .pre .0) (suc (loop .u)) in
+    (start .pre .0, omega arith, omega (arith, more at), omega (arith, next at, fit, start .pre .2, same (at .before)))
 
 -- there are so many now
 counted : (c : tie.After-put-leaving Inv-loop μ-loop)
-    → c .put-leaving .result ≡ length (inOrder (planOf (c .before .before .before .before .before .before .args .p .now)) (suc (c .before .before .before .loop .u)))
+    → c .put-leaving .result ≡ length (inOrder (planOf (c .before .before .before .before .before .before .before .args .p .now)) (suc (c .before .before .before .loop .u)))
 counted c = c .put-leaving .ensures .0 ∙ next (c .before .before)
 
 cast-ends : tie.Need-cast-ends Inv-loop μ-loop
-cast-ends c = omega (arith, counted c, order-few (c .before .before .before .before .before .before .pre .0) (suc (c .before .before .before .loop .u)))
+cast-ends c = omega (arith, counted (c .before .before), order-few (c .before .before .before .before .before .before .before .before .before .pre .0) (suc (c .before .before .before .before .before .loop .u)))
 
 mul-ends : tie.Need-mul-ends Inv-loop μ-loop
-mul-ends c = omega (arith, few (c .before .before))
+mul-ends c = omega (arith, few (c .before .before .before .before))
 
 array-write-ends : tie.Need-array-write-ends Inv-loop μ-loop
-array-write-ends c = omega (arith, few (c .before .before))
+array-write-ends c = omega (arith, few (c .before .before .before .before))
 
 loop-less : tie.Need-loop-less Inv-loop μ-loop
-loop-less c = omega (arith, c .before .before .loop-test .taken)
+loop-less c = omega (arith, c .before .before .before .before .loop-test .taken)
 
 loop-again : tie.Need-loop-again Inv-loop μ-loop
 loop-again c =
-    let at = c .before .before in
+    let put = c .before .before in
+    let at = put .before .before in
+    let start = at .before .before .before .before .before in
+    let n = length (start .args .arcs .now) in
     let loop = at .before .loop in
-    let p = planOf (at .before .before .before .before .args .p .now) in
+    let p = planOf (start .args .p .now) in
     let u = loop .u in
     let e = add-one u in (
       omega (arith, at .loop-test .taken),
-      counted c ∙ sym (ap (λ (v : ℕ). length (inOrder p v)) e),
-      (λ i. set (loop .inv .2 i) (e i) (counted c i)) ∙ ends-more p u (few at) ∙ sym (ap (endsTo p) e),
-      c .put-leaving .ensures .1
+      counted put ∙ sym (ap (λ (v : ℕ). length (inOrder p v)) e),
+      (λ i. set (loop .inv .2 i) (e i) (counted put i)) ∙ ends-more p u (few at) ∙ sym (ap (endsTo p) e),
+      put .put-leaving .ensures .1
           ∙ (λ i. take (loop .inv .1 i) (loop .inv .3 i) ++ map arcOf (leaving p (e i)) ++ drop (loop .inv .1 i + length (leaving p (e i))) (loop .inv .3 i))
-          ∙ arcs-more p u
-          ∙ sym (ap (arcsTo p) e),
+          ∙ arcs-more n p u
+          ∙ sym (ap (arcsTo n p) e),
     )
+
+same-length : tie.Need-same-length Inv-loop μ-loop
+same-length c = same (c .before)
 
 returns : tie.Need-returns Inv-loop μ-loop
 returns c =
     let loop = c .before .loop in
-    let p = planOf (c .before .before .before .before .args .p .now) in
+    let start = c .before .before .before .before .before in
+    let p = planOf (start .args .p .now) in
+    let n = length (start .args .arcs .now) in
     let e : loop .u ≡ p .junctions = omega (arith, loop .inv .0, c .loop-test .left, c .before .before .junctions .ensures) in
     let ends : loop .ends ≡ endsOf p = loop .inv .2 ∙ ap (endsTo p) e ∙ ends-all p in
-    let arcs : loop .arcs ≡ arcsOf p = loop .inv .3 ∙ ap (arcsTo p) e ∙ arcs-all p in
+    let arcs : loop .arcs ≡ arcsIn n p = loop .inv .3 ∙ ap (arcsTo n p) e ∙ arcs-all n p in
     (ends, arcs)
 
 pub decode-spec : {M : Type 1} → statement M
@@ -119,4 +129,5 @@ decode-spec =
     array-write-ends
     loop-less
     loop-again
+    same-length
     returns)

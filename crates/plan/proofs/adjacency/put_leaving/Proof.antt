@@ -1,11 +1,11 @@
 -- `plan::adjacency::put_leaving` meets its contract: the arcs with those that are still to be stored are those with all of the junction's belts
 -- stored. Assumes nothing.
-use mathlib.Core.Path.{_≡_, sym, _∙_, ap, subst}
+use mathlib.Core.Path.{_≡_, refl, sym, _∙_, ap, subst}
 use Prim.Native.Nat.{ℕ, _+_, _*_, _<_}
 use mathlib.Core.List.{List, [], _∷_, _++_, map}
 use native.Mathlib.Omega.{arith}
 use native.Mathlib.Numerals.{add-one}
-use lib.ListN.{length, take, drop, set, length-map}
+use lib.ListN.{length, take, drop, set, length-map, length-set}
 use lib.Seq.{sets, sets-eq}
 use borrow.Author.Needs.{needs}
 use Rattle.plan.specs.Plan.{Belt, planOf, beltAt, leaving}
@@ -20,6 +20,7 @@ Inv-loop p u from arcs₀ count₀ belt₀ arcs count belt =
     ((belt .0 ≡ 0 → ⊥) → IsBelt p (belt .0))
     × (count + length (beltsFrom p (belt .0)) ≡ from + length (leaving (planOf p) u))
     × (sets arcs count (map arcOf (beltsFrom p (belt .0))) ≡ sets arcs₀ from (map arcOf (leaving (planOf p) u)))
+    × (length arcs ≡ length arcs₀)
 
 abbrev μ-loop : tie.MeasureT-loop
 μ-loop p u from arcs₀ count₀ belt₀ arcs count belt = length (beltsFrom p (belt .0))
@@ -29,7 +30,7 @@ first-belt-requires c κs = search needs
 
 loop-holds : tie.Need-loop-holds Inv-loop μ-loop
 loop-holds c =
-    let start = c .before .before in
+    let start = c .before .before .before in
     let a = start .args in
     let p = a .p .now in
     let e = c .first-belt .ensures in
@@ -38,39 +39,40 @@ loop-holds c =
       λ d. subst (IsBelt p) (sym e) (is (λ z. d (e ∙ z))),
       ap (λ (es : List Belt). a .from + length es) all,
       ap (λ (es : List Belt). sets (a .arcs .now) (a .from) (map arcOf es)) all,
+      refl,
     )
 
 -- the belt of this turn
-belt-is : (c : tie.Then1 Inv-loop μ-loop) → IsBelt (c .before .before .before .before .before .args .p .now) (c .before .before .loop .belt .0)
+belt-is : (c : tie.Then1 Inv-loop μ-loop) → IsBelt (c .before .before .before .before .before .before .args .p .now) (c .before .before .loop .belt .0)
 belt-is c = c .before .before .loop .inv .0 (c .if1 .taken)
 
 leads-to-requires : tie.Need-leads-to-requires Inv-loop μ-loop
-leads-to-requires c κs = (c .before .before .before .before .before .pre .0, belt-is c)
+leads-to-requires c κs = (c .before .before .before .before .before .before .pre .0, belt-is c)
 
 cost-requires : tie.Need-cost-requires Inv-loop μ-loop
-cost-requires c κs = (c .before .before .before .before .before .before .pre .0, belt-is (c .before))
+cost-requires c κs = (c .before .before .before .before .before .before .before .pre .0, belt-is (c .before))
 
 -- the belts from this one on
 step : (c : tie.Then1 Inv-loop μ-loop)
-    → beltsFrom (c .before .before .before .before .before .args .p .now) (c .before .before .loop .belt .0)
-    ≡ beltAt (c .before .before .before .before .before .args .p .now) (c .before .before .loop .belt .0)
-    ∷ beltsFrom (c .before .before .before .before .before .args .p .now) (nextBelt (c .before .before .before .before .before .args .p .now) (c .before .before .loop .belt .0))
-step c = belts-next (c .before .before .before .before .before .pre .0) (c .before .before .loop .belt .0) (belt-is c)
+    → beltsFrom (c .before .before .before .before .before .before .args .p .now) (c .before .before .loop .belt .0)
+    ≡ beltAt (c .before .before .before .before .before .before .args .p .now) (c .before .before .loop .belt .0)
+    ∷ beltsFrom (c .before .before .before .before .before .before .args .p .now) (nextBelt (c .before .before .before .before .before .before .args .p .now) (c .before .before .loop .belt .0))
+step c = belts-next (c .before .before .before .before .before .before .pre .0) (c .before .before .loop .belt .0) (belt-is c)
 
 -- there is room for it
-free : (c : tie.Then1 Inv-loop μ-loop) → c .before .before .loop .count < 2048
+free : (c : tie.Then1 Inv-loop μ-loop) → c .before .before .loop .count < length (c .before .before .loop .arcs)
 free c =
     let size = ap length (step c) in
-    omega (arith, c .before .before .loop .inv .1, c .before .before .before .before .before .pre .3)
+    omega (arith, c .before .before .loop .inv .1, c .before .before .loop .inv .3, c .before .before .before .before .before .before .pre .3)
 
 -- its number and where it leads fit
 name-low : (c : tie.Then1 Inv-loop μ-loop) → c .before .before .loop .belt .0 < 2048
-name-low c = belt-low (c .before .before .before .before .before .pre .0) (c .before .before .loop .belt .0) (belt-is c) .2
+name-low c = belt-low (c .before .before .before .before .before .before .pre .0) (c .before .before .loop .belt .0) (belt-is c) .2
 
 leads-low : (c : tie.After-leads-to Inv-loop μ-loop) → c .leads-to .result < 65536
 leads-low c =
     let at = c .before .before .before in
-    let known = at .before .before in
+    let known = at .before .before .before in
     omega (arith, c .leads-to .ensures, field-low (known .before .args .p .now) (λ i. omega (arith, known .shared-slice-known .given i)) (at .loop .belt .0) 2)
 
 mul-arcs : tie.Need-mul-arcs Inv-loop μ-loop
@@ -89,21 +91,21 @@ add-arcs-2 : tie.Need-add-arcs-2 Inv-loop μ-loop
 add-arcs-2 c = omega (arith, c .before .cost .ensures .1, leads-low (c .before .before), name-low (c .before .before .before))
 
 mul-arcs-3 : tie.Need-mul-arcs-3 Inv-loop μ-loop
-mul-arcs-3 c = omega (arith, free (c .before .before .before))
+mul-arcs-3 c = search needs
 
-element-write-arcs : tie.Need-element-write-arcs Inv-loop μ-loop
-element-write-arcs c = free (c .before .before .before)
+slice-write-arcs : tie.Need-slice-write-arcs Inv-loop μ-loop
+slice-write-arcs c = free (c .before .before .before)
 
 add-count : tie.Need-add-count Inv-loop μ-loop
-add-count c = omega (arith, free (c .before .before .before))
+add-count c = search needs
 
 next-belt-requires : tie.Need-next-belt-requires Inv-loop μ-loop
-next-belt-requires c κs = (c .before .before .before .before .before .before .before .before .pre .0, belt-is (c .before .before .before))
+next-belt-requires c κs = (c .before .before .before .before .before .before .before .before .before .pre .0, belt-is (c .before .before .before))
 
 loop-less : tie.Need-loop-less Inv-loop μ-loop
 loop-less c =
     let turn = c .before .before .before .before in
-    let p = turn .before .before .before .before .before .args .p .now in
+    let p = turn .before .before .before .before .before .before .args .p .now in
     let now = ap length (step turn) in
     let next = ap (λ (e : ℕ). length (beltsFrom p e)) (c .next-belt .ensures) in
     omega arith
@@ -112,7 +114,7 @@ loop-again : tie.Need-loop-again Inv-loop μ-loop
 loop-again c =
     let turn = c .before .before .before .before in
     let loop = turn .before .before .loop in
-    let start = turn .before .before .before .before .before in
+    let start = turn .before .before .before .before .before .before in
     let p = start .args .p .now in
     let e = loop .belt .0 in
     let q = c .next-belt .ensures in
@@ -125,11 +127,15 @@ loop-again c =
       (λ i. sets (set (loop .arcs) (loop .count) (cost i * 4294967296 + (leads i * 65536 + e))) (add-one (loop .count) i) (map arcOf (beltsFrom p (c .next-belt .result .0))))
           ∙ sym (ap (λ (es : List Belt). sets (loop .arcs) (loop .count) (map arcOf es)) all)
           ∙ loop .inv .2,
+      length-set (loop .arcs) (loop .count) _ ∙ loop .inv .3,
     )
+
+same-length : tie.Need-same-length Inv-loop μ-loop
+same-length c = c .before .before .loop .inv .3
 
 returns : tie.Need-returns Inv-loop μ-loop
 returns c =
-    let start = c .before .before .before .before .before in
+    let start = c .before .before .before .before .before .before in
     let loop = c .before .before .loop in
     let a = start .args in
     let arcs = a .arcs .now in
@@ -140,7 +146,7 @@ returns c =
       omega (arith, loop .inv .1),
       sym (ap (λ (es : List Belt). sets (loop .arcs) (loop .count) (map arcOf es)) none)
           ∙ loop .inv .2
-          ∙ sets-eq (map arcOf all) arcs (a .from) (omega (arith, start .pre .3, start .pre .4))
+          ∙ sets-eq (map arcOf all) arcs (a .from) (omega (arith, start .pre .3))
           ∙ ap (λ (n : ℕ). take (a .from) arcs ++ map arcOf all ++ drop (a .from + n) arcs) many,
     )
 
@@ -160,9 +166,10 @@ put-leaving-spec =
     add-arcs
     add-arcs-2
     mul-arcs-3
-    element-write-arcs
+    slice-write-arcs
     add-count
     next-belt-requires
     loop-less
     loop-again
+    same-length
     returns)

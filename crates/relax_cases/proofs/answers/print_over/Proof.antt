@@ -1,26 +1,50 @@
--- `print_over`: the room that the belts are put into stays as large.
-use mathlib.Core.Path.{_∙_, ap}
+-- `print_over`: there is room for the belts of every plan, and the room that the belts of the route are put into stays as large.
+use mathlib.Core.Path.{_≡_, refl, _∙_, ap}
+use native.Mathlib.Omega.{arith}
 use lib.ListN.{length, replicate}
 use borrow.Author.Needs.{needs}
 use Rattle.plan.specs.Plan.{planOf}
+use Rattle.plan.specs.Adjacency.{arcsIn}
+use Rattle.plan.proofs.Arcs.{arcs-lent, records-few}
 use Rattle.route.specs.Subproblems.{relaxed}
 use Rattle.route.specs.Values.{subproblemIn, atMost}
 use Rattle.route.proofs.Bounded.{kept-size}
 use Rattle.relax_cases.proofs.answers.print_over.Statement.{statement}
 use Rattle.relax_cases.proofs.answers.print_over.Tie as tie
 
+slice-aggregate-decode : tie.Need-slice-aggregate-decode
+slice-aggregate-decode c = search needs
+
 decode-requires : tie.Need-decode-requires
-decode-requires c κs = search needs
+decode-requires c κs = let start = c .before .before in (start .pre .0, refl, records-few (start .pre .0) .0)
+
+-- the belts side by side
+arcs : (c : tie.After-decode) → let p = c .before .before .before .args .p .now in
+    c .decode .last .1 .0 ≡ arcsIn (length (c .decode .last .1 .0)) (planOf p)
+arcs c = let ok = c .before .before .before .pre .0 in arcs-lent ok 2048 (records-few ok .0) (c .decode .ensures .1)
+
+slice-aggregate-exits : tie.Need-slice-aggregate-exits
+slice-aggregate-exits c = search needs
 
 exits-requires : tie.Need-exits-requires
-exits-requires c κs = search needs
+exits-requires c κs =
+    let decoded = c .before .before .before in
+    let start = decoded .before .before .before in
+    (start .pre .0, start .pre .1, decoded .decode .ensures .0, arcs decoded)
+
+slice-aggregate-relaxed-route : tie.Need-slice-aggregate-relaxed-route
+slice-aggregate-relaxed-route c = search needs
 
 relaxed-route-requires : tie.Need-relaxed-route-requires
-relaxed-route-requires c κs = search needs
+relaxed-route-requires c κs =
+    let left = c .before .before .before .before .before in
+    let decoded = left .before .before .before .before in
+    let start = decoded .before .before .before in
+    (start .pre .0, start .pre .1, decoded .decode .ensures .0, arcs decoded, left .exits .ensures, start .pre .2, start .pre .3, omega arith, refl)
 
 print-relaxed-requires : tie.Need-print-relaxed-requires
 print-relaxed-requires c κs =
-    let a = c .before .before .before .before .before .before .before .before .before .before .before .before .before .args in
+    let a = c .before .before .before .before .before .before .before .before .before .before .before .before .before .before .args in
     let b = a .p .now in
     let way = atMost 281474976710655 (relaxed (planOf b) (a .trip .s) (a .trip .t) (subproblemIn b (a .fixings))) in
     ap length (c .before .relaxed-route .ensures .2) ∙ kept-size way (replicate 255 0)
@@ -31,4 +55,12 @@ returns c = search needs
 pub print-over-spec : {M : Type 1} → statement M
 print-over-spec =
     tie.close
-    (tie.spec decode-requires exits-requires relaxed-route-requires print-relaxed-requires returns)
+    (tie.spec
+    slice-aggregate-decode
+    decode-requires
+    slice-aggregate-exits
+    exits-requires
+    slice-aggregate-relaxed-route
+    relaxed-route-requires
+    print-relaxed-requires
+    returns)

@@ -41,44 +41,44 @@ below : (c : tie.Start Inv-loop μ-loop) → c .args .u < 257
 below c = omega (arith, c .pre .3, plan-sizes (c .pre .0 .accepted) .1)
 
 mul-end : tie.Need-mul-end Inv-loop μ-loop
-mul-end c = omega (arith, below (c .before))
+mul-end c = omega (arith, below (c .before .before))
 
 element-copy-out-end : tie.Need-element-copy-out-end Inv-loop μ-loop
-element-copy-out-end c = below (c .before)
+element-copy-out-end c = below (c .before .before)
 
 cast-end : tie.Need-cast-end Inv-loop μ-loop
 cast-end c =
-    let start = c .before .before in
+    let start = c .before .before .before in
     let h = start .pre in
     omega (arith, end-low (h .0 .accepted) (h .0) (start .args .u) (h .3))
 
 sub-i : tie.Need-sub-i Inv-loop μ-loop
-sub-i c = omega (arith, c .before .before .pre .2)
+sub-i c = omega (arith, c .before .before .before .pre .2)
 
 mul-i : tie.Need-mul-i Inv-loop μ-loop
-mul-i c = omega (arith, below (c .before .before))
+mul-i c = omega (arith, below (c .before .before .before))
 
 element-copy-out-i : tie.Need-element-copy-out-i Inv-loop μ-loop
-element-copy-out-i c = omega (arith, below (c .before .before))
+element-copy-out-i c = omega (arith, below (c .before .before .before))
 
 cast-i : tie.Need-cast-i Inv-loop μ-loop
 cast-i c =
-    let start = c .before .before .before in
+    let start = c .before .before .before .before in
     let h = start .pre in
     omega (arith, end-low (h .0 .accepted) (h .0) (start .args .u - 1) (omega (arith, h .3)))
 
 loop-holds : tie.Need-loop-holds Inv-loop μ-loop
 loop-holds c =
-    let start = c .before .before .before in
+    let start = c .before .before .before .before in
     let h = start .pre in
     left-start (h .0 .accepted) (h .0) (start .args .u) (h .2) (h .3) (cheap-start (leaving (planOf (start .args .p .now)) (start .args .u)) (h .4))
 
 -- a turn of the loop: where it was asked for, and the belt that is next
 abbrev start : tie.In-loop Inv-loop μ-loop → tie.Start Inv-loop μ-loop
-start c = c .before .before .before .before .before
+start c = c .before .before .before .before .before .before
 
 bytes : (c : tie.In-loop Inv-loop μ-loop) → Bytes (start c .args .p .now)
-bytes c i = c .before .before .before .before .shared-slice-known .given i .fits
+bytes c i = c .before .before .before .before .before .shared-slice-known .given i .fits
 
 next : (c : tie.In-loop Inv-loop μ-loop) → let a = start c .args in let loop = c .before .loop in
     Next (a .p .now) (a .arcs .now) (loop .i) (getD (a .ends .now) (a .u) 0) (Gives (a .p .now) (a .fixings) (costsIn (a .ways .now)) (a .nearest) (a .u) (loop .best) (loop .belt))
@@ -90,8 +90,8 @@ low c = arc-low (start c .pre .0 .accepted) (next c .arc)
 mul-arc : tie.Need-mul-arc Inv-loop μ-loop
 mul-arc c = omega (arith, c .loop-test .taken, c .before .loop .inv .span .few)
 
-element-copy-out-arc : tie.Need-element-copy-out-arc Inv-loop μ-loop
-element-copy-out-arc c = omega (arith, c .loop-test .taken, c .before .loop .inv .span .few)
+shared-slice-read-arc : tie.Need-shared-slice-read-arc Inv-loop μ-loop
+shared-slice-read-arc c = omega (arith, c .before .loop-test .taken, c .before .before .loop .inv .span .fits)
 
 head-requires : tie.Need-head-requires Inv-loop μ-loop
 head-requires c κs = search needs
@@ -196,7 +196,7 @@ cheapest-spec =
     cast-i
     loop-holds
     mul-arc
-    element-copy-out-arc
+    shared-slice-read-arc
     head-requires
     cost-requires
     mul-over

@@ -13,21 +13,21 @@ abbrev μ-loop : tie.MeasureT-loop
 μ-loop p places ends arcs last exits₀ u₀ exits u = last + 1 - u
 
 junctions-requires : tie.Need-junctions-requires Inv-loop μ-loop
-junctions-requires c κs = c .before .pre .0
+junctions-requires c κs = c .before .before .pre .0
 
 loop-holds : tie.Need-loop-holds Inv-loop μ-loop
-loop-holds c = (omega arith, filled-start (c .before .before .pre .0))
+loop-holds c = (omega arith, filled-start (c .before .before .before .pre .0))
 
 -- the junction of a turn is one of at most 256
 below : (c : tie.In-loop Inv-loop μ-loop) → c .before .loop .u < 257
 below c =
     let known = c .before .before in
-    omega (arith, c .loop-test .taken, known .junctions .ensures, plan-sizes (known .before .before .pre .0) .1)
+    omega (arith, c .loop-test .taken, known .junctions .ensures, plan-sizes (known .before .before .before .pre .0) .1)
 
 exits-at-requires : tie.Need-exits-at-requires Inv-loop μ-loop
 exits-at-requires c κs =
     let known = c .before .before in
-    let h = known .before .before .pre in (
+    let h = known .before .before .before .pre in (
       record { accepted = h .0; placed = h .1; ended = h .2; listed = h .3 },
       c .before .loop .inv .0,
       omega (arith, c .loop-test .taken, known .junctions .ensures),
@@ -48,12 +48,12 @@ loop-less c = omega (arith, c .before .loop-test .taken)
 loop-again : tie.Need-loop-again Inv-loop μ-loop
 loop-again c =
     let at = c .before .before in
-    (omega arith, filled-next (at .before .before .before .pre .0) (below (c .before)) (at .loop .inv .1) (c .exits-at .ensures))
+    (omega arith, filled-next (at .before .before .before .before .pre .0) (below (c .before)) (at .loop .inv .1) (c .exits-at .ensures))
 
 returns : tie.Need-returns Inv-loop μ-loop
 returns c =
     let known = c .before .before in
-    filled-end (known .before .before .pre .0) (omega (arith, c .loop-test .left, known .junctions .ensures)) (c .before .loop .inv .1)
+    filled-end (known .before .before .before .pre .0) (omega (arith, c .loop-test .left, known .junctions .ensures)) (c .before .loop .inv .1)
 
 pub exits-spec : {M : Type 1} → statement M
 exits-spec =

@@ -30,35 +30,35 @@ below : (c : tie.Start Inv-loop μ-loop) → c .args .u < 257
 below c = omega (arith, c .pre .2, plan-sizes (c .pre .0 .accepted) .1)
 
 mul-end : tie.Need-mul-end Inv-loop μ-loop
-mul-end c = omega (arith, below (c .before))
+mul-end c = omega (arith, below (c .before .before))
 
 element-copy-out-end : tie.Need-element-copy-out-end Inv-loop μ-loop
-element-copy-out-end c = below (c .before)
+element-copy-out-end c = below (c .before .before)
 
 cast-end : tie.Need-cast-end Inv-loop μ-loop
 cast-end c =
-    let start = c .before .before in
+    let start = c .before .before .before in
     let h = start .pre in
     omega (arith, end-low (h .0 .accepted) (h .0) (start .args .u) (h .2))
 
 sub-i : tie.Need-sub-i Inv-loop μ-loop
-sub-i c = omega (arith, c .before .before .pre .1)
+sub-i c = omega (arith, c .before .before .before .pre .1)
 
 mul-i : tie.Need-mul-i Inv-loop μ-loop
-mul-i c = omega (arith, below (c .before .before))
+mul-i c = omega (arith, below (c .before .before .before))
 
 element-copy-out-i : tie.Need-element-copy-out-i Inv-loop μ-loop
-element-copy-out-i c = omega (arith, below (c .before .before))
+element-copy-out-i c = omega (arith, below (c .before .before .before))
 
 cast-i : tie.Need-cast-i Inv-loop μ-loop
 cast-i c =
-    let start = c .before .before .before in
+    let start = c .before .before .before .before in
     let h = start .pre in
     omega (arith, end-low (h .0 .accepted) (h .0) (start .args .u - 1) (omega (arith, h .2)))
 
 loop-holds : tie.Need-loop-holds Inv-loop μ-loop
 loop-holds c =
-    let start = c .before .before .before in
+    let start = c .before .before .before .before in
     let h = start .pre in
     let u = start .args .u in
     left-start (h .0 .accepted) (h .0) u (h .1) (h .2)
@@ -66,10 +66,10 @@ loop-holds c =
 
 -- a turn of the loop: where it was asked for, and the belt that is next
 abbrev start : tie.In-loop Inv-loop μ-loop → tie.Start Inv-loop μ-loop
-start c = c .before .before .before .before .before
+start c = c .before .before .before .before .before .before
 
 bytes : (c : tie.In-loop Inv-loop μ-loop) → Bytes (start c .args .p .now)
-bytes c i = c .before .before .before .before .shared-slice-known .given i .fits
+bytes c i = c .before .before .before .before .before .shared-slice-known .given i .fits
 
 next : (c : tie.In-loop Inv-loop μ-loop) → let a = start c .args in
     Next (a .p .now) (a .arcs .now) (c .before .loop .i) (getD (a .ends .now) (a .u) 0) (Gathers (a .p .now) (a .places .now) (a .u) (c .before .loop .mask))
@@ -78,8 +78,8 @@ next c = left-next (start c .pre .0 .accepted) (bytes c) (c .before .loop .inv) 
 mul-name : tie.Need-mul-name Inv-loop μ-loop
 mul-name c = omega (arith, c .loop-test .taken, c .before .loop .inv .span .few)
 
-element-copy-out-name : tie.Need-element-copy-out-name Inv-loop μ-loop
-element-copy-out-name c = omega (arith, c .loop-test .taken, c .before .loop .inv .span .few)
+shared-slice-read-name : tie.Need-shared-slice-read-name Inv-loop μ-loop
+shared-slice-read-name c = omega (arith, c .before .loop-test .taken, c .before .before .loop .inv .span .fits)
 
 name-requires : tie.Need-name-requires Inv-loop μ-loop
 name-requires c κs = search needs
@@ -134,7 +134,7 @@ exits-at-spec =
     cast-i
     loop-holds
     mul-name
-    element-copy-out-name
+    shared-slice-read-name
     name-requires
     place-of-requires
     with-requires

@@ -32,7 +32,7 @@ nothing-requires c κs = search needs
 returns : tie.Need-returns
 returns c =
     let asked = c .before .before in
-    let from = asked .before .before in
+    let from = asked .before .before .before in
     let lost = sym (asked .may-lead .ensures .1 (not-true _ (c .before .if1 .taken))) in (
       c .nothing .ensures ∙ ap (λ (o : Option (List Belt)). summaryAs (from .args .p .now) (atMost (from .args .bound) o)) lost,
       search needs,
@@ -42,7 +42,7 @@ returns c =
 ways-to-requires : tie.Need-ways-to-requires
 ways-to-requires c κs =
     let asked = c .before .before in
-    let from = asked .before .before in
+    let from = asked .before .before .before in
     let h = from .pre in
     let forward = asked .may-lead .ensures .0 (not-false _ (c .before .if1 .left)) .0 in
     (record { accepted = h .0; placed = h .1; ended = h .2; listed = h .3 }, h .4, ends from .0, forward, ends from .3, h .6, h .7, h .8)
@@ -52,7 +52,7 @@ abbrev asked : tie.After-ways-to → tie.After-may-lead
 asked c = c .before .before .before
 
 abbrev start : tie.After-ways-to → tie.Start
-start c = asked c .before .before
+start c = asked c .before .before .before
 
 abbrev way : tie.After-ways-to → Option (List Belt)
 way c = let a = start c .args in wayIn (a .p .now) (a .fixings) (a .trip .t) (a .trip .s)

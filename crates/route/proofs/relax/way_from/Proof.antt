@@ -16,14 +16,14 @@ below : (c : tie.Start) → c .args .u < 257
 below c = omega (arith, c .pre .4, plan-sizes (c .pre .0 .accepted) .1)
 
 mul-if1 : tie.Need-mul-if1
-mul-if1 c = omega (arith, below (c .before))
+mul-if1 c = omega (arith, below (c .before .before))
 
 element-copy-out-if1 : tie.Need-element-copy-out-if1
-element-copy-out-if1 c = below (c .before)
+element-copy-out-if1 c = below (c .before .before)
 
 cheapest-requires : tie.Need-cheapest-requires
 cheapest-requires c κs =
-    let start = c .before .before .before .before in
+    let start = c .before .before .before .before .before in
     let a = start .args in
     let h = start .pre in
     let none = sym (ap (λ (exits : List ℕ). bitAnd (getD exits (a .u) 0) (a .fixings .required)) (h .1)) ∙ c .if1 .taken in
@@ -34,7 +34,7 @@ returns c = search needs
 
 by-required-requires : tie.Need-by-required-requires
 by-required-requires c κs =
-    let start = c .before .before .before .before in
+    let start = c .before .before .before .before .before in
     let a = start .args in
     let h = start .pre in
     let exit = ap (λ (exits : List ℕ). bitAnd (getD exits (a .u) 0) (a .fixings .required)) (h .1) in

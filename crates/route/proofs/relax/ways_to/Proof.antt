@@ -41,12 +41,13 @@ bytes c i = c .shared-slice-known .given i .fits
 
 loop-holds : tie.Need-loop-holds Inv-loop μ-loop
 loop-holds c =
-    let start = c .before in
+    let known = c .before in
+    let start = known .before in
     let p = start .args .p .now in
     let x = subproblemIn p (start .args .fixings) in
     let t = start .args .t in
     let (costs, firsts, spared) = kept-start (start .args .s) t (start .args .ways .now) (start .pre .7) in
-    (subst₂ (Passed p x t t t) (sym costs) (sym firsts) (passed-start (start .pre .0 .accepted) (bytes c) x t (start .pre .4)), spared)
+    (subst₂ (Passed p x t t t) (sym costs) (sym firsts) (passed-start (start .pre .0 .accepted) (bytes known) x t (start .pre .4)), spared)
 
 sub-u : tie.Need-sub-u Inv-loop μ-loop
 sub-u c = omega (arith, c .loop-test .taken)
@@ -55,7 +56,7 @@ way-from-requires : tie.Need-way-from-requires Inv-loop μ-loop
 way-from-requires c κs =
     let turn = c .before in
     let done = turn .before .loop .inv .0 in
-    let h = turn .before .before .before .pre in
+    let h = turn .before .before .before .before .pre in
     (h .0, h .1, done .low, omega (arith, turn .loop-test .taken, h .2), omega (arith, done .inside, h .4), h .5)
 
 -- a turn: where it was begun, and where the pass was asked for
@@ -63,7 +64,7 @@ abbrev turn-of : tie.After-way-from Inv-loop μ-loop → tie.In-loop Inv-loop μ
 turn-of c = c .before .before
 
 abbrev start-of : tie.In-loop Inv-loop μ-loop → tie.Start Inv-loop μ-loop
-start-of c = c .before .before .before
+start-of c = c .before .before .before .before
 
 abbrev sub : (c : tie.In-loop Inv-loop μ-loop) → Subproblem
 sub c = subproblemIn (start-of c .args .p .now) (start-of c .args .fixings)
@@ -76,7 +77,7 @@ low : (c : tie.After-way-from Inv-loop μ-loop) → (c .way-from .result .belt .
 low c =
     let turn = turn-of c in
     let start = start-of turn in
-    passed-low (start .pre .0 .accepted) (bytes (turn .before .before)) (sub turn) (start .args .t) (start .pre .4)
+    passed-low (start .pre .0 .accepted) (bytes (turn .before .before .before)) (sub turn) (start .args .t) (start .pre .4)
     (omega (arith, turn .loop-test .taken)) (turn .before .loop .inv .0) (c .way-from .ensures)
 
 -- once the way is stored the pass is done one junction further back
@@ -117,7 +118,7 @@ moved : (c : tie.After-way-from Inv-loop μ-loop) → c .way-from .result .requi
 moved c h =
     let turn = turn-of c in
     let start = start-of turn in
-    passed-moved (start .pre .0 .accepted) (bytes (turn .before .before)) (sub turn) (start .args .t) (start .pre .4)
+    passed-moved (start .pre .0 .accepted) (bytes (turn .before .before .before)) (sub turn) (start .args .t) (start .pre .4)
     (omega (arith, turn .loop-test .taken)) (turn .before .loop .inv .0) (c .way-from .ensures) h
 
 returns : tie.Need-returns Inv-loop μ-loop
@@ -125,7 +126,7 @@ returns c =
     let called = c .before .before .before .before .before .before in
     let turn = turn-of called in
     let start = start-of turn in
-    let dear = passed-above (start .pre .0 .accepted) (bytes (turn .before .before)) (sub turn) (start .args .t) (start .pre .4)
+    let dear = passed-above (start .pre .0 .accepted) (bytes (turn .before .before .before)) (sub turn) (start .args .t) (start .pre .4)
     (omega (arith, turn .loop-test .taken)) (turn .before .loop .inv .0) (called .way-from .ensures) (c .before .before .if1 .taken)
     (start .args .bound) (c .if2 .taken) (start .args .s) (omega (arith, turn .loop-test .taken)) in
     (sym (ap wayCost dear), λ h. absurd (omega (arith, start .pre .6)), stored called _ (moved called (c .before .before .if1 .taken)) .1)
@@ -145,35 +146,35 @@ loop-again-2 c =
     let turn = turn-of called in
     let start = start-of turn in
     stored called _
-    (passed-kept (start .pre .0 .accepted) (bytes (turn .before .before)) (sub turn) (start .args .t) (start .pre .4)
+    (passed-kept (start .pre .0 .accepted) (bytes (turn .before .before .before)) (sub turn) (start .args .t) (start .pre .4)
     (omega (arith, turn .loop-test .taken)) (turn .before .loop .inv .0) (called .way-from .ensures) (c .if1 .left))
 
 mul-cost : tie.Need-mul-cost Inv-loop μ-loop
-mul-cost c = omega (arith, inside (c .before .before .before) .0)
+mul-cost c = omega (arith, inside (c .before .before .before .before) .0)
 
 element-copy-out-cost : tie.Need-element-copy-out-cost Inv-loop μ-loop
-element-copy-out-cost c = inside (c .before .before .before) .0
+element-copy-out-cost c = inside (c .before .before .before .before) .0
 
 -- what is kept for s is its way on
 abbrev way : tie.After-loop Inv-loop μ-loop → Option (List Belt)
-way c = let args = c .before .before .before .args in wayIn (args .p .now) (args .fixings) (args .t) (args .s)
+way c = let args = c .before .before .before .before .args in wayIn (args .p .now) (args .fixings) (args .t) (args .s)
 
-priced : (c : tie.After-loop Inv-loop μ-loop) → getD (c .before .loop .ways) (c .before .before .before .args .s) 0 / 2048 ≡ wayCost (way c)
+priced : (c : tie.After-loop Inv-loop μ-loop) → getD (c .before .loop .ways) (c .before .before .before .before .args .s) 0 / 2048 ≡ wayCost (way c)
 priced c =
-    let start = c .before .before .before in
+    let start = c .before .before .before .before in
     sym (cost-at (c .before .loop .ways) (start .args .s)) ∙ c .before .loop .inv .0 .priced (start .args .s) (c .loop-test .left) (start .pre .3)
 
 returns-2 : tie.Need-returns-2 Inv-loop μ-loop
 returns-2 c =
     let end = c .before .before in
-    let start = end .before .before .before in
+    let start = end .before .before .before .before in
     let dear = at-most-none (start .args .bound) (way end) (subst (λ (k : ℕ). start .args .bound < k) (priced end) (c .if3 .taken)) in
     (sym (ap wayCost dear), λ h. absurd (omega (arith, start .pre .6)), end .before .loop .inv .1)
 
 returns-3 : tie.Need-returns-3 Inv-loop μ-loop
 returns-3 c =
     let end = c .before .before in
-    let start = end .before .before .before in
+    let start = end .before .before .before .before in
     let within = at-most-some (start .args .bound) (way end) (subst (λ (k : ℕ). k ≤ start .args .bound) (priced end) (c .if3 .left)) in
     (priced end ∙ sym (ap wayCost within), λ h u l. end .before .loop .inv .0 .guides u (omega (arith, end .loop-test .left)), end .before .loop .inv .1)
 

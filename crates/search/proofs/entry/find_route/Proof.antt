@@ -1,131 +1,72 @@
--- `entry::find_route` meets its contract: the run is the written search's, and each ending has its answer. Assumes nothing.
-use mathlib.Core.Path.{refl, subst}
+-- `entry::find_route` meets its contract: each of the two arrays has room for the belts. Assumes nothing.
+use mathlib.Core.Path.{refl}
+use native.Mathlib.Omega.{arith}
+use Prim.Native.Nat.{_≤_}
 use borrow.Author.Needs.{needs}
-use Rattle.search.specs.declared.state.Ending.the-variants.{GoesOn, Nothing, Spent}
-use Rattle.search.specs.Answers.{reply, replyOf, Told}
-use Rattle.search.proofs.Replies.{turn-ended, turn-found}
+use Rattle.plan.specs.Records.{records}
+use Rattle.plan.proofs.Arcs.{arcs-lent, records-few}
 use Rattle.search.proofs.entry.find_route.Statement.{statement}
 use Rattle.search.proofs.entry.find_route.Tie as tie
 
-named-belts-requires : tie.Need-named-belts-requires
-named-belts-requires c κs = search needs
+slice-aggregate-decode : tie.Need-slice-aggregate-decode
+slice-aggregate-decode c = search needs
 
-places-among-requires : tie.Need-places-among-requires
-places-among-requires c κs = search needs
+-- a plan of up to 3,072 bytes has at most 256 records
+small : (c : tie.Then1) → records (c .before .before .before .args .p .now) ≤ 256
+small c = omega (arith, c .if1 .taken, records-few (c .before .before .before .pre .0) .1)
 
 decode-requires : tie.Need-decode-requires
-decode-requires c κs = search needs
+decode-requires c κs = let start = c .before .before .before .before in (start .pre .0, refl, small (c .before))
 
-exits-requires : tie.Need-exits-requires
-exits-requires c κs = search needs
+slice-aggregate-find-over : tie.Need-slice-aggregate-find-over
+slice-aggregate-find-over c = search needs
 
-decode-requires-2 : tie.Need-decode-requires-2
-decode-requires-2 c κs = search needs
-
-rule-counts-requires : tie.Need-rule-counts-requires
-rule-counts-requires c κs = search needs
-
-run-requires : tie.Need-run-requires
-run-requires c κs = let start = c .before .before .before .before .before .before .before .before .before .before .before .before .before .before .before .before .before .before .before .before in
-    let accepted = start .pre .0 in
-    let junctions = start .pre .1 in
-    record {
-      accepted = accepted;
-      placed = c .before .before .before .before .before .before .before .before .before .before .before .before .before .before .before .before .places-among .ensures;
-      ended = c .before .before .before .before .before .before .before .before .before .before .before .before .before .before .decode .ensures .0;
-      listed = c .before .before .before .before .before .before .before .before .before .before .before .before .before .before .decode .ensures .1;
-      left = search needs;
-      ruled = search needs;
-      counted = search needs;
-      junctions = junctions;
-    }
-
-enum-told : tie.Need-enum-told
-enum-told c = search needs
-
--- where the run began
-abbrev begun : tie.After-run → tie.Start
-begun c = c .before .before .before .before .before .before .before .before .before .before .before .before .before .before .before .before .before .before .before .before .before
-
--- where its rules were made
-abbrev ruled : tie.After-run → tie.After-decode2
-ruled c = c .before .before .before .before .before .before .before .before
-
-write-best-requires : tie.Need-write-best-requires
-write-best-requires c κs =
-    let ran = c .before .before .before .before .before .before in
-    let start = begun ran in
-    let places = ran .before .before .before .before .before .before .before .before .before .before .before .before .before .before .before .before .before .places-among .ensures in
-    (start .pre .0, places, ruled ran .decode2 .ensures, ran .run .ensures .1, start .pre .2)
-
-enum-told-2 : tie.Need-enum-told-2
-enum-told-2 c = search needs
-
-enum-told-3 : tie.Need-enum-told-3
-enum-told-3 c = search needs
-
-enum-told-4 : tie.Need-enum-told-4
-enum-told-4 c = search needs
+find-over-requires : tie.Need-find-over-requires
+find-over-requires c κs =
+    let start = c .before .before .before .before .before .before .before .before .before in
+    let decoded = c .before .before .before .before .decode .ensures in
+    (start .pre .0, start .pre .1, start .pre .2, decoded .0, arcs-lent (start .pre .0) 256 (small (c .before .before .before .before .before .before)) (decoded .1))
 
 same-length : tie.Need-same-length
 same-length c = search needs
 
 returns : tie.Need-returns
-returns c =
-    let wrote = c .before .before in
-    let told = wrote .before .before .before .before in
-    let ran = told .before .before .before in
-    let start = begun ran in
-    let out = start .args .out .now in
-    subst (Told (replyOf (wrote .write-best .result)) out (wrote .write-best .last .1 .1 .1 .1 .0))
-    (turn-found (start .args .p .now) (start .args .query) (ran .run .result) (ran .run .ensures .0) out (told .enum-told .given .1))
-    (wrote .write-best .ensures)
+returns c = search needs
+
+slice-aggregate-decode-2 : tie.Need-slice-aggregate-decode-2
+slice-aggregate-decode-2 c = search needs
+
+decode-requires-2 : tie.Need-decode-requires-2
+decode-requires-2 c κs = let start = c .before .before .before .before in (start .pre .0, refl, records-few (start .pre .0) .0)
+
+slice-aggregate-find-over-2 : tie.Need-slice-aggregate-find-over-2
+slice-aggregate-find-over-2 c = search needs
+
+find-over-requires-2 : tie.Need-find-over-requires-2
+find-over-requires-2 c κs =
+    let start = c .before .before .before .before .before .before .before .before .before in
+    let decoded = c .before .before .before .before .decode2 .ensures in
+    (start .pre .0, start .pre .1, start .pre .2, decoded .0, arcs-lent (start .pre .0) 2048 (records-few (start .pre .0) .0) (decoded .1))
+
+same-length-2 : tie.Need-same-length-2
+same-length-2 c = search needs
 
 returns-2 : tie.Need-returns-2
-returns-2 c =
-    let ran = c .before .before .before in
-    let start = begun ran in
-    let out = start .args .out .now in
-    subst (Told (reply 100 (ran .run .result .search .opened) 0) out out)
-    (turn-ended (start .args .p .now) (start .args .query) (ran .run .result) (ran .run .ensures .0) out Nothing (c .enum-told2 .given .1))
-    (refl, refl)
-
-returns-3 : tie.Need-returns-3
-returns-3 c =
-    let ran = c .before .before .before in
-    let start = begun ran in
-    let out = start .args .out .now in
-    subst (Told (reply 101 (ran .run .result .search .opened) 0) out out)
-    (turn-ended (start .args .p .now) (start .args .query) (ran .run .result) (ran .run .ensures .0) out Spent (c .enum-told3 .given .1))
-    (refl, refl)
-
-returns-4 : tie.Need-returns-4
-returns-4 c =
-    let ran = c .before .before .before in
-    let start = begun ran in
-    let out = start .args .out .now in
-    subst (Told (reply 101 (ran .run .result .search .opened) 0) out out)
-    (turn-ended (start .args .p .now) (start .args .query) (ran .run .result) (ran .run .ensures .0) out GoesOn (c .enum-told4 .given .1))
-    (refl, refl)
+returns-2 c = search needs
 
 pub find-route-spec : {M : Type 1} → statement M
 find-route-spec =
     tie.close
     (tie.spec
-    named-belts-requires
-    places-among-requires
+    slice-aggregate-decode
     decode-requires
-    exits-requires
-    decode-requires-2
-    rule-counts-requires
-    run-requires
-    enum-told
-    write-best-requires
-    enum-told-2
-    enum-told-3
-    enum-told-4
+    slice-aggregate-find-over
+    find-over-requires
     same-length
     returns
-    returns-2
-    returns-3
-    returns-4)
+    slice-aggregate-decode-2
+    decode-requires-2
+    slice-aggregate-find-over-2
+    find-over-requires-2
+    same-length-2
+    returns-2)
