@@ -1,12 +1,14 @@
 -- Numbers by their bits: settings of modes, and masks.
 --
 --   isSet n k      bit k of n is 1
+--   power-set      of 2^i only bit i is 1
 --   or-set         the bits of either of two numbers; or-power: setting bit i sets it and leaves the others
 --   and-set        the bits that two numbers have in common
 --   without-set    the bits of a number that another does not have
 --   ones-set       the first w bits of 2^w - 1 are all 1
 --   lowest-none, lowest-set
---                  the trailing zeros of a number: below so many none is 1, and the next is
+--                  the trailing zeros of a number: below so many none is 1, and the next is; lowest-low: a number of m bits that is not 0 has
+--                  fewer of them than bits
 --   bits-equal     numbers of n bits with the same bits are equal
 --   shifted        w bits do not cut the bit of a lower place
 --   low-bits, high-bits
@@ -15,15 +17,18 @@
 --
 -- Everything goes bit by bit: bit j + 1 of a number is bit j of its half (half-set). Assumes nothing.
 use mathlib.Core.Path.{_≡_, refl, sym, _∙_, ap}
+use mathlib.Core.Logic.{_⊎_, inl, inr}
 use mathlib.Core.Bool.{Bool, true, false, not, _&&_, _||_}
 use Prim.Native.Nat.{ℕ, zero, suc, _+_, _-_, _*_, _/_, _%_, _^_, _≤_, _<_}
 use native.Mathlib.Omega.{arith}
-use native.Mathlib.Nat.{one-mul, mul-assoc, div-eq-of-lt, add-mul-div-right, add-mul-mod-self-right, two-pow-succ}
+use native.Mathlib.Nat.{zero-div, one-mul, mul-assoc, div-eq-of-lt, add-mul-div-right, add-mul-mod-self-right, two-pow-succ}
 use native.Mathlib.Numerals.{one-add, sub-one}
 use lib.Pow.{pow-pos, pow-add, shl-exact, shr-shr}
 use lib.Bits.{bitAnd, bitOr, bitXor, and-shr, and-mod, or-shr, or-mod, xor-shr, xor-mod}
 use lib.Count.{under, trailingZeros}
-use lib.Dec.{eqb, lit<, eqb·zero-suc, eqb·suc-zero, eqb·suc-suc}
+use lib.Dec.{eqb, ltb, lit<, eqb·zero-suc, eqb·suc-zero, eqb·suc-suc}
+use borrow.Author.Tests.{ltb-true, ltb-false}
+use Rattle.plan.proofs.Lists.{test}
 use Rattle.route.specs.Permission.{isOn}
 
 abbrev isSet : ℕ → ℕ → Bool
@@ -34,7 +39,7 @@ half-set n j = ap (λ (m : ℕ). eqb (m % 2) 1) (ap (λ (k : ℕ). n / 2 ^ k) (s
 
 -- ---- setting a bit
 
-power-set : (i j : ℕ) → isSet (2 ^ i) j ≡ eqb j i
+pub power-set : (i j : ℕ) → isSet (2 ^ i) j ≡ eqb j i
 power-set zero zero = refl
 power-set (suc i) zero =
     let even : 2 ^ suc i / 2 ^ 0 % 2 ≡ 0 = omega (arith, two-pow-succ i) in
@@ -188,6 +193,18 @@ bits-equal (suc n) a c h k same =
     let last : a / 2 ^ 0 % 2 ≡ c / 2 ^ 0 % 2 =
     bit-back (a / 2 ^ 0 % 2) (omega arith) ∙ ap bit (same 0 (omega arith)) ∙ sym (bit-back (c / 2 ^ 0 % 2) (omega arith)) in
     omega arith
+
+zero-set : (j : ℕ) → isSet 0 j ≡ false
+zero-set j = ap (λ (n : ℕ). eqb (n % 2) 1) (zero-div (2 ^ j))
+
+pub lowest-low : (w n m : ℕ) → n < 2 ^ m → (n ≡ 0 → ⊥) → trailingZeros w n < m
+lowest-low w n m h some = go (test (ltb (trailingZeros w n) m))
+  where
+    go : (ltb (trailingZeros w n) m ≡ true) ⊎ (ltb (trailingZeros w n) m ≡ false) → trailingZeros w n < m
+    go (inl t) = ltb-true (trailingZeros w n) m t
+    go (inr t) =
+        let far = ltb-false (trailingZeros w n) m t in
+        absurd (some (bits-equal m n 0 h (pow-pos m) (λ j l. lowest-none w n j (omega arith) ∙ sym (zero-set j))))
 
 -- ---- settings
 

@@ -4,8 +4,9 @@
 --   Filled b u exits      the array exits has the masks of the junctions below u, and 0 from u on
 --   filled-start, -next, -end
 --                         so it is at first with none; with the mask of u one more is done; behind the last junction it is all of exitsOf
---   none-required         a mask that has no place in common with the required belts: none of them leaves the junction
---   some-required         one that has: some of them does
+--   required-hit, hit-required
+--                         what the mask of a junction has in common with the required belts are those of them that leave the junction
+--   none-required         where that is nothing, none of them leaves the junction
 --   inside-owed           where the masks from s on and before t, joined, have all required belts, each leaves one of these junctions
 --   owed-inside           and the other way round
 --
@@ -17,7 +18,7 @@ use Prim.Native.Nat.{ℕ, suc, _+_, _≤_, _<_}
 use mathlib.Core.List.{List, [], _∷_, List·Memᴰ, Memᴰ·cast}
 use native.Mathlib.Omega.{arith}
 use native.Mathlib.Nat.{eq-or-lt-of-le}
-use lib.Bits.{bitAnd, bitOr, and-le-l, and-le-r}
+use lib.Bits.{bitAnd, bitOr, and-le-l}
 use lib.ListN.{length, getD, set, replicate, length-set, length-replicate, getD-replicate}
 use lib.Seq.{getD-set-same, getD-set-other}
 use lib.Dec.{eqb, ltb}
@@ -25,7 +26,7 @@ use borrow.Author.Tests.{ne-eqb, ltb-true, ltb-false}
 use Rattle.plan.specs.Lists.{any, mem, upto}
 use Rattle.plan.specs.Plan.{Belt, planOf, namesOf, leaving, named}
 use Rattle.plan.specs.Reading.{Accepted}
-use Rattle.plan.proofs.Lists.{test, both, and-is, never, untrue, alike, any-none, none-any, in-any, any-some, in-keep, keep-in, keep-none, in-map, map-in, getD-first, map-first, in-upto, upto-in, in-mem, mem-in}
+use Rattle.plan.proofs.Lists.{test, both, and-is, never, untrue, alike, none-any, in-any, any-some, in-keep, keep-in, keep-none, in-map, map-in, getD-first, map-first, in-upto, upto-in, in-mem, mem-in}
 use Rattle.plan.proofs.Naming.{named-rises}
 use Rattle.plan.proofs.Reading.{in-leaving, leaving-in, belt-of, belt-low, belt-ends}
 use Rattle.route.specs.declared.relax.Fixings.{Fixings}
@@ -107,39 +108,30 @@ module _ {b : List ℕ} (ok : Accepted b) where
           let (g, k, q) = map-in (λ (f : Belt). f .name) (leaving (planOf b) u) m in
           omega (arith, q, belt-low ok (g .name) (belt-of ok g (leaving-in (planOf b) u g k .0) .0) .2)
 
-  pub none-required : (f : Fixings) (u : ℕ) → u < 257 → bitAnd (getD (exitsOf b) u 0) (f .required) ≡ 0
-      → any (isRequired (subproblemIn b f)) (leaving (planOf b) u) ≡ false
-  none-required f u l h =
-      none-any (isRequired (subproblemIn b f)) (leaving (planOf b) u) (λ e m.
-      untrue (isRequired (subproblemIn b f) e) (λ w.
-      let needed : fixes ns (f .required) (e .name) ≡ true = sym (fixed-mem ns (f .required) (e .name)) ∙ w in
-      let leaves : fixes ns (getD (exitsOf b) u 0) (e .name) ≡ true =
-      exit-has u (e .name) l (has-named ns (f .required) (e .name) needed) ∙ in-mem (namesOf (leaving (planOf b) u)) (in-map (λ (g : Belt). g .name) m) in
-      never
-      (common-fixes ns (getD (exitsOf b) u 0) (f .required) (e .name)
-      ∙ and-is (fixes ns (getD (exitsOf b) u 0) (e .name)) (fixes ns (f .required) (e .name)) leaves needed)
-      (ap (λ (m : ℕ). fixes ns m (e .name)) h ∙ nothing-has ns (e .name))))
+  module _ (f : Fixings) (u : ℕ) (l : u < 257) where
+    pub required-hit : (e : Belt) → List·Memᴰ e (leaving (planOf b) u) → isRequired (subproblemIn b f) e ≡ true
+        → fixes (named (planOf b)) (bitAnd (getD (exitsOf b) u 0) (f .required)) (e .name) ≡ true
+    required-hit e m w =
+        let needed : fixes ns (f .required) (e .name) ≡ true = sym (fixed-mem ns (f .required) (e .name)) ∙ w in
+        let leaves : fixes ns (getD (exitsOf b) u 0) (e .name) ≡ true =
+        exit-has u (e .name) l (has-named ns (f .required) (e .name) needed) ∙ in-mem (namesOf (leaving (planOf b) u)) (in-map (λ (g : Belt). g .name) m) in
+        common-fixes ns (getD (exitsOf b) u 0) (f .required) (e .name)
+        ∙ and-is (fixes ns (getD (exitsOf b) u 0) (e .name)) (fixes ns (f .required) (e .name)) leaves needed
 
-  pub some-required : (f : Fixings) (u : ℕ) → u < 257 → OfNamed b (f .required) → (bitAnd (getD (exitsOf b) u 0) (f .required) ≡ 0 → ⊥)
-      → any (isRequired (subproblemIn b f)) (leaving (planOf b) u) ≡ true
-  some-required f u l few h = go (test (any (isRequired (subproblemIn b f)) (leaving (planOf b) u)))
-    where
-      exit : ℕ
-      exit = getD (exitsOf b) u 0
+    pub hit-required : (n : ℕ) → fixes (named (planOf b)) (bitAnd (getD (exitsOf b) u 0) (f .required)) n ≡ true
+        → (e : Belt) × List·Memᴰ e (leaving (planOf b) u) × (n ≡ e .name) × (isRequired (subproblemIn b f) e ≡ true)
+    hit-required n w =
+        let exit = getD (exitsOf b) u 0 in
+        let (leaves, needed) = both (fixes ns exit n) (fixes ns (f .required) n) (sym (common-fixes ns exit (f .required) n) ∙ w) in
+        let i = has-named ns (f .required) n needed in
+        let (e, m, q) = map-in (λ (d : Belt). d .name) (leaving (planOf b) u) (mem-in (namesOf (leaving (planOf b) u)) (sym (exit-has u n l i) ∙ leaves)) in
+        (e, m, q, fixed-mem ns (f .required) (e .name) ∙ ap (fixes ns (f .required)) (sym q) ∙ needed)
 
-      -- a belt that both masks have is required and leaves the junction
-      apart : any (isRequired (subproblemIn b f)) (leaving (planOf b) u) ≡ false → (e : ℕ) → List·Memᴰ e ns → fixes ns (bitAnd exit (f .required)) e ≡ false
-      apart none e i = untrue (fixes ns (bitAnd exit (f .required)) e) (λ w.
-          let (leaves, needed) = both (fixes ns exit e) (fixes ns (f .required) e) (sym (common-fixes ns exit (f .required) e) ∙ w) in
-          let (g, k, q) = map-in (λ (d : Belt). d .name) (leaving (planOf b) u) (mem-in (namesOf (leaving (planOf b) u)) (sym (exit-has u e l i) ∙ leaves)) in
-          never (fixed-mem ns (f .required) (g .name) ∙ ap (fixes ns (f .required)) (sym q) ∙ needed) (any-none (isRequired (subproblemIn b f)) (leaving (planOf b) u) none k))
-
-      go : (any (isRequired (subproblemIn b f)) (leaving (planOf b) u) ≡ true) ⊎ (any (isRequired (subproblemIn b f)) (leaving (planOf b) u) ≡ false)
-          → any (isRequired (subproblemIn b f)) (leaving (planOf b) u) ≡ true
-      go (inl some) = some
-      go (inr none) =
-          absurd (h (masks-equal (named-rises b) (bitAnd exit (f .required)) 0 (omega (arith, and-le-r exit (f .required))) (omega arith) (λ e i.
-          apart none e i ∙ sym (nothing-has ns e))))
+    pub none-required : bitAnd (getD (exitsOf b) u 0) (f .required) ≡ 0 → any (isRequired (subproblemIn b f)) (leaving (planOf b) u) ≡ false
+    none-required h =
+        none-any (isRequired (subproblemIn b f)) (leaving (planOf b) u) (λ e m.
+        untrue (isRequired (subproblemIn b f) e) (λ w.
+        never (required-hit e m w) (ap (λ (m : ℕ). fixes ns m (e .name)) h ∙ nothing-has ns (e .name))))
 
   -- ---- the masks of some junctions, joined
 

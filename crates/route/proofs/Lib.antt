@@ -20,6 +20,7 @@ pub mod Passed
 pub mod Fixed
 pub mod Spans
 pub mod Exits
+pub mod Hits
 pub mod Walked
 pub mod Chosen
 pub mod Answered

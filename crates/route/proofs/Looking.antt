@@ -8,6 +8,7 @@
 --                     the way on by belt e costs less than that by f, or as much and e has no higher name
 --   Looked x costs nearest es way
 --                     of the belts of es that stand alone, way has the first of the cheapest (chosen), or there is no way on by any (blocked)
+--   stays             behind a required belt its way stays, or is shut where a second one is required
 --   looked            this is so once the belts es, of rising names, are looked at
 --   looked-required   and then the way is marked exactly if one of them is required
 --
@@ -170,20 +171,18 @@ module _ (x : Subproblem) (costs : List ℕ) (nearest : ℕ) where
   -- ---- one is required: it drops the others, and a second one drops it
 
   -- the way by a required belt g stays, unless there is a second one
-  abbrev Stays : ℕ → BeltId → Bool → Way → Type 0
-  Stays k g second way = ((way ≡ made k g true) × (second ≡ false)) ⊎ ((way .cost ≡ costLimit) × (second ≡ true))
-
-  stays : (k : ℕ) (g : BeltId) (es : List Belt) → Stays k g (any (isRequired x) es) (after (made k g true) es)
-  stays k g [] = inl (refl, refl)
-  stays k g (e ∷ es) = go (isRequired x e) (stays costLimit (beltId (e .name)) es) (stays k g es)
+  pub stays : (k : ℕ) (g : BeltId) (es : List Belt) → wayBy x costs nearest (made k g true) es ≡ made (orShut (any (isRequired x) es) k) g true
+  stays k g [] = refl
+  stays k g (e ∷ es) = go (isRequired x e) (stays costLimit g es) (stays k g es)
     where
-      dropped : (second : Bool) (way : Way) → Stays costLimit (beltId (e .name)) second way → way .cost ≡ costLimit
-      dropped second way (inl (s, q)) = ap (λ (w : Way). w .cost) s
-      dropped second way (inr (s, q)) = s
+      shut : (second : Bool) → orShut second costLimit ≡ costLimit
+      shut true = refl
+      shut false = refl
 
-      go : (w : Bool) → Stays costLimit (beltId (e .name)) (any (isRequired x) es) (after (made costLimit (beltId (e .name)) true) es)
-          → Stays k g (any (isRequired x) es) (after (made k g true) es) → Stays k g (w || any (isRequired x) es) (after (then (made k g true) e w) es)
-      go true rest below = inr (dropped (any (isRequired x) es) (after (made costLimit (beltId (e .name)) true) es) rest, refl)
+      go : (w : Bool) → after (made costLimit g true) es ≡ made (orShut (any (isRequired x) es) costLimit) g true
+          → after (made k g true) es ≡ made (orShut (any (isRequired x) es) k) g true
+          → after (then (made k g true) e w) es ≡ made (orShut (w || any (isRequired x) es) k) g true
+      go true rest below = rest ∙ ap (λ (c : ℕ). made c g true) (shut (any (isRequired x) es))
       go false rest below = below
 
   -- a belt that is not required, in front of one that is, does not stand alone
@@ -207,21 +206,22 @@ module _ (x : Subproblem) (costs : List ℕ) (nearest : ℕ) where
   looked-fixed k g [] r some = absurd (true≢false (sym some))
   looked-fixed k g (e ∷ es) (more h r) some = go (isRequired x e) refl (λ j i. looked-fixed j i es r)
     where
-      here : isRequired x e ≡ true → (way : Way) → Stays (on e) (beltId (e .name)) (any (isRequired x) es) way → Looked (e ∷ es) way
-      here w way (inl (s, free)) =
+      here : isRequired x e ≡ true → (second : Bool) → any (isRequired x) es ≡ second → (way : Way)
+          → way ≡ made (orShut second (on e)) (beltId (e .name)) true → Looked (e ∷ es) way
+      here w false free way s =
           chosen e (List·Memᴰ·head refl)
           (each (λ (f : Belt). isRequired x f ≡ true → f ≡ e) (λ q. refl) (λ f m q. absurd (never q (any-none (isRequired x) es free m))))
           (ap (λ (v : Way). v .cost) s) (ap (λ (v : Way). v .belt) s)
           (λ f m a. subst (Wins x costs nearest e) (a e (List·Memᴰ·head refl) w) (omega arith, λ q. omega arith))
-      here w way (inr (s, two)) =
-          blocked s (λ f m a.
+      here w true two way s =
+          blocked (ap (λ (v : Way). v .cost) s) (λ f m a.
           let (d, i, q) = any-some (isRequired x) es two in
           let n : e .name ≡ d .name = ap (λ (v : Belt). v .name) (a e (List·Memᴰ·head refl) w ∙ sym (a d (List·Memᴰ·tail i) q)) in
           absurd (omega (arith, lowest-first e es h d i)))
 
       go : (w : Bool) → isRequired x e ≡ w → ((j : ℕ) (i : BeltId) → any (isRequired x) es ≡ true → Looked es (after (made j i false) es))
           → Looked (e ∷ es) (after (then (made k g false) e w) es)
-      go true w below = here w (after (by e true) es) (stays (on e) (beltId (e .name)) es)
+      go true w below = here w (any (isRequired x) es) refl (after (by e true) es) (stays (on e) (beltId (e .name)) es)
       go false w below = later (ltb (on e) k)
         where
           rest : any (isRequired x) es ≡ true

@@ -70,8 +70,8 @@ set-low m (y ∷ l) (suc i) a h all (suc j) = set-low m l i a h (λ k. all (suc 
 preferred-low : (n : ℕ) (way : Way) (e : BeltId) (c : ℕ) (r : Bool) → way .belt .0 < n → e .0 < n → preferred way e c r .belt .0 < n
 preferred-low n way e c true h k = go (way .required)
   where
-    go : (q : Bool) → let w : Way = elim q [ true ↦ record { cost = costLimit; belt = e; required = true } | false ↦ record { cost = c; belt = e; required = true } ] in w .belt .0 < n
-    go true = k
+    go : (q : Bool) → let w : Way = elim q [ true ↦ record { cost = costLimit; belt = way .belt; required = true } | false ↦ record { cost = c; belt = e; required = true } ] in w .belt .0 < n
+    go true = h
     go false = k
 preferred-low n way e c false h k = go (way .required) (ltb c (way .cost))
   where

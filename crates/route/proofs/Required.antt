@@ -1,88 +1,85 @@
--- Looking only at required belts, where one is required.
+-- The way on from a junction that a required belt leaves.
 --
---   Needed x costs nearest whole way es
---                  the way, once the required ones of the belts es are looked at, is whole
---   needed-start    so it is before the first, of no way, where one of them is required
---   needed-taken    a required belt is looked at
---   needed-passed   any other is passed over
---   needed-end      where none is left the way is whole
+--   second x e es     a belt of es that has a higher name than e is required
+--   first-required    where e is the first required one of the belts es, of rising names, the way once they are looked at is that by e, or is shut
+--                     where there is a second one
 --
--- A belt that is not required leaves no trace once a required one is looked at. Assumes nothing.
-use mathlib.Core.Path.{_≡_, refl, sym, _∙_, ap}
-use mathlib.Core.Bool.{Bool, true, false, _||_, true≢false}
-use Prim.Native.Nat.{ℕ}
-use mathlib.Core.List.{List, [], _∷_}
+-- In front of e nothing is required, and what was found there is dropped; behind it only required belts count (`stays` of Looking.antt). Assumes
+-- nothing.
+use mathlib.Core.Path.{_≡_, refl, sym, _∙_, ap, subst}
+use mathlib.Core.Logic.{_⊎_, inl, inr}
+use mathlib.Core.Bool.{Bool, true, false, _&&_, _||_}
+use Prim.Native.Nat.{ℕ, _≤_, _<_}
+use mathlib.Core.List.{List, [], _∷_, List·Memᴰ, List·Memᴰ·head, List·Memᴰ·tail, List·Memᴰ·not-nil, List·Memᴰ·cases-cons}
+use native.Mathlib.Omega.{arith}
 use lib.Dec.{ltb}
+use borrow.Author.Tests.{ltb-true, lt-ltb}
 use Rattle.plan.specs.declared.read.BeltId.{BeltId}
-use Rattle.plan.specs.Lists.{any, kept, keep}
-use Rattle.plan.specs.Plan.{Belt, beltId}
+use Rattle.plan.specs.Lists.{any}
+use Rattle.plan.specs.Plan.{Belt, namesOf, beltId}
+use Rattle.plan.proofs.Lists.{both, and-is, untrue, alike, in-any, any-some, in-map}
+use Rattle.plan.proofs.Rising.{Rises, more}
 use Rattle.route.specs.declared.relax.Way.{Way}
-use Rattle.route.specs.Routes.{costLimit}
 use Rattle.route.specs.Subproblems.{Subproblem}
-use Rattle.route.specs.Inner.{isRequired, costBy, noWay, preferred, wayBy}
-use Rattle.route.proofs.Looking.{made}
+use Rattle.route.specs.Inner.{isRequired, orShut, costBy, preferred, wayBy}
+use Rattle.route.proofs.Looking.{made, stays}
 
-module _ (x : Subproblem) (costs : List ℕ) (nearest : ℕ) where
-  -- the way once all of es are looked at, and once the required ones are
+abbrev pub second : Subproblem → Belt → List Belt → Bool
+second x e es = any (λ (d : Belt). isRequired x d && ltb (e .name) (d .name)) es
+
+module _ (x : Subproblem) (costs : List ℕ) (nearest : ℕ) (e : Belt) (needed : isRequired x e ≡ true) where
+  -- the way once all of es are looked at
   abbrev after : Way → List Belt → Way
   after way es = wayBy x costs nearest way es
 
-  abbrev after-required : Way → List Belt → Way
-  after-required way es = after way (keep (isRequired x) es)
+  -- the way by e, unless there is a second one
+  abbrev by-first : Bool → Way
+  by-first two = made (orShut two (costBy x costs nearest e)) (beltId (e .name)) true
 
-  -- the way once e is looked at
-  abbrev then : Way → Belt → Bool → Way
-  then way e w = preferred way (beltId (e .name)) (costBy x costs nearest e) w
-
-  -- behind a required belt the others change nothing
-  behind : (k : ℕ) (g : BeltId) (es : List Belt) → after-required (made k g true) es ≡ after (made k g true) es
-  behind k g [] = refl
-  behind k g (e ∷ es) = go (isRequired x e) refl (λ j i. behind j i es)
+  -- behind e a second one is any that is required
+  behind : (es : List Belt) → ((n : ℕ) → List·Memᴰ n (namesOf es) → e .name < n) → any (isRequired x) es ≡ second x e (e ∷ es)
+  behind es above =
+      alike (any (isRequired x) es) (second x e (e ∷ es))
+      (λ some.
+      let (d, m, w) = any-some (isRequired x) es some in
+      in-any (λ (d : Belt). isRequired x d && ltb (e .name) (d .name)) (e ∷ es) (List·Memᴰ·tail m)
+      (and-is (isRequired x d) (ltb (e .name) (d .name)) w (lt-ltb (e .name) (d .name) (above (d .name) (in-map (λ (g : Belt). g .name) m)))))
+      (λ two.
+      let (d, m, w) = any-some (λ (d : Belt). isRequired x d && ltb (e .name) (d .name)) (e ∷ es) two in
+      let (r, l) = both (isRequired x d) (ltb (e .name) (d .name)) w in
+      in-any (isRequired x) es (later d (ltb-true (e .name) (d .name) l) (List·Memᴰ·cases-cons m)) r)
     where
-      go : (w : Bool) → isRequired x e ≡ w → ((j : ℕ) (i : BeltId) → after-required (made j i true) es ≡ after (made j i true) es)
-          → after (made k g true) (kept w e (keep (isRequired x) es)) ≡ after (then (made k g true) e w) es
-      go true w rest = ap (λ (v : Bool). after (then (made k g true) e v) (keep (isRequired x) es)) w ∙ rest costLimit (beltId (e .name))
-      go false w rest = rest k g
+      later : (d : Belt) → e .name < d .name → (d ≡ e) ⊎ List·Memᴰ d es → List·Memᴰ d es
+      later d l (inl q) = let n : d .name ≡ e .name = ap (λ (g : Belt). g .name) q in absurd (omega arith)
+      later d l (inr m) = m
 
-  -- in front of one whatever was found is dropped
-  in-front : (k j : ℕ) (g i : BeltId) (es : List Belt) → any (isRequired x) es ≡ true → after-required (made k g false) es ≡ after (made j i false) es
-  in-front k j g i [] some = absurd (true≢false (sym some))
-  in-front k j g i (e ∷ es) some = go (isRequired x e) refl (λ l h. in-front k l g h es)
+  pub first-required : (k : ℕ) (g : BeltId) (es : List Belt) → Rises (namesOf es) → List·Memᴰ e es
+      → ((d : Belt) → List·Memᴰ d es → isRequired x d ≡ true → e .name ≤ d .name)
+      → wayBy x costs nearest (made k g false) es ≡ made (orShut (second x e es) (costBy x costs nearest e)) (beltId (e .name)) true
+  first-required k g [] r m least = absurd (List·Memᴰ·not-nil m)
+  first-required k g (h ∷ es) (more above r) m least = go (List·Memᴰ·cases-cons m) (λ j i. first-required j i es r)
     where
-      go : (w : Bool) → isRequired x e ≡ w → ((l : ℕ) (h : BeltId) → any (isRequired x) es ≡ true → after-required (made k g false) es ≡ after (made l h false) es)
-          → after (made k g false) (kept w e (keep (isRequired x) es)) ≡ after (then (made j i false) e w) es
-      go true w rest =
-          ap (λ (v : Bool). after (then (made k g false) e v) (keep (isRequired x) es)) w ∙ behind (costBy x costs nearest e) (beltId (e .name)) es
-      go false w rest = later (ltb (costBy x costs nearest e) j)
+      -- the way once h is looked at
+      then : Bool → Way
+      then w = preferred (made k g false) (beltId (h .name)) (costBy x costs nearest h) w
+
+      go : (e ≡ h) ⊎ List·Memᴰ e es
+          → ((j : ℕ) (i : BeltId) → List·Memᴰ e es → ((d : Belt) → List·Memᴰ d es → isRequired x d ≡ true → e .name ≤ d .name)
+          → after (made j i false) es ≡ by-first (second x e es))
+          → after (then (isRequired x h)) es ≡ by-first (second x e (h ∷ es))
+      go (inl q) rest =
+          subst (λ (d : Belt). after (preferred (made k g false) (beltId (d .name)) (costBy x costs nearest d) (isRequired x d)) es ≡ by-first (second x e (d ∷ es))) q
+          (ap (λ (w : Bool). after (preferred (made k g false) (beltId (e .name)) (costBy x costs nearest e) w) es) needed
+          ∙ stays x costs nearest (costBy x costs nearest e) (beltId (e .name)) es
+          ∙ ap by-first (behind es (subst (λ (d : Belt). (n : ℕ) → List·Memᴰ n (namesOf es) → d .name < n) (sym q) above)))
+      go (inr i) rest =
+          let low = above (e .name) (in-map (λ (d : Belt). d .name) i) in
+          let free = untrue (isRequired x h) (λ w. let l = least h (List·Memᴰ·head refl) w in omega arith) in
+          ap (λ (w : Bool). after (then w) es) free
+          ∙ later (ltb (costBy x costs nearest h) k)
+          ∙ ap by-first (sym (ap (λ (w : Bool). (w && ltb (e .name) (h .name)) || second x e es) free))
         where
-          others : any (isRequired x) es ≡ true
-          others = ap (λ (v : Bool). v || any (isRequired x) es) (sym w) ∙ some
-
           later : (less : Bool)
-              → after-required (made k g false) es ≡ after (elim less [ true ↦ made (costBy x costs nearest e) (beltId (e .name)) false | false ↦ made j i false ]) es
-          later true = rest (costBy x costs nearest e) (beltId (e .name)) others
-          later false = rest j i others
-
-pub record Needed (x : Subproblem) (costs : List ℕ) (nearest : ℕ) (whole way : Way) (es : List Belt) : Type 0 where
-  same : wayBy x costs nearest way (keep (isRequired x) es) ≡ whole
-
-module _ {x : Subproblem} {costs : List ℕ} {nearest : ℕ} where
-  pub needed-start : (es : List Belt) → any (isRequired x) es ≡ true → Needed x costs nearest (wayBy x costs nearest noWay es) noWay es
-  needed-start es some = record { same = in-front x costs nearest costLimit costLimit (beltId 0) (beltId 0) es some }
-
-  pub needed-end : {whole way : Way} → Needed x costs nearest whole way [] → way ≡ whole
-  needed-end f = f .same
-
-  module _ {whole way : Way} {e : Belt} {es : List Belt} (f : Needed x costs nearest whole way (e ∷ es)) where
-    -- the way by the required ones of es
-    abbrev on : Way → Way
-    on w = wayBy x costs nearest w (keep (isRequired x) es)
-
-    pub needed-taken : isRequired x e ≡ true → Needed x costs nearest whole (preferred way (beltId (e .name)) (costBy x costs nearest e) true) es
-    needed-taken w =
-        let here = ap (λ (v : Bool). wayBy x costs nearest way (kept v e (keep (isRequired x) es))) w in
-        let looked = ap (λ (v : Bool). on (preferred way (beltId (e .name)) (costBy x costs nearest e) v)) w in
-        record { same = sym (here ∙ looked) ∙ f .same }
-
-    pub needed-passed : isRequired x e ≡ false → Needed x costs nearest whole way es
-    needed-passed w = record { same = sym (ap (λ (v : Bool). wayBy x costs nearest way (kept v e (keep (isRequired x) es))) w) ∙ f .same }
+              → after (elim less [ true ↦ made (costBy x costs nearest h) (beltId (h .name)) false | false ↦ made k g false ]) es ≡ by-first (second x e es)
+          later true = rest (costBy x costs nearest h) (beltId (h .name)) i (λ d n. least d (List·Memᴰ·tail n))
+          later false = rest k g i (λ d n. least d (List·Memᴰ·tail n))

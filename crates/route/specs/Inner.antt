@@ -23,9 +23,9 @@
 --   wayOver costs nearest forbidden e
 --                   the same by an array of the costs from later junctions; a forbidden belt drops out (orShut), and one that leads past the
 --                   junction nearest. costBy x costs nearest e: the same by the subproblem x
---   arcBelt a       what an arc says of its belt; where the belt leaves it does not say
 --   preferred way e c required
---                   the way on from a junction, once its belt e is looked at, by which it costs c; noWay: before the first
+--                   the way on from a junction, once its belt e is looked at, by which it costs c; noWay: before the first. A required belt
+--                   drops the others, and a second one drops every way, but the first keeps its name
 --   wayBy x costs nearest way es
 --                   the same once all the belts es are looked at
 --   Begins p x t u v
@@ -50,7 +50,7 @@ use lib.Dec.{eqb, leb, ltb}
 use Rattle.plan.specs.declared.read.BeltId.{BeltId}
 use Rattle.plan.specs.Lists.{all, keep, mem}
 use Rattle.plan.specs.Plan.{Belt, Plan, planOf, namesOf, beltId}
-use Rattle.plan.specs.Adjacency.{arcCost, arcHead, arcName, arcsIn, endsOf}
+use Rattle.plan.specs.Adjacency.{arcsIn, endsOf}
 use Rattle.plan.specs.Reading.{Accepted}
 use Rattle.plan.specs.declared.read.Literal.{Literal}
 use Rattle.plan.specs.declared.read.Literal.the-variants.{OfBelt, OfMode}
@@ -140,9 +140,6 @@ onBy e c = orShut (eqb c costLimit) (e .cost + c)
 abbrev pub wayOver : List ℕ → ℕ → Bool → Belt → ℕ
 wayOver costs nearest forbidden e = orShut (forbidden || ltb nearest (e .leads)) (onBy e (getD costs (e .leads) 0))
 
-abbrev pub arcBelt : ℕ → Belt
-arcBelt a = record { name = arcName a; leaves = 0; leads = arcHead a; cost = arcCost a }
-
 abbrev pub costBy : Subproblem → List ℕ → ℕ → Belt → ℕ
 costBy x costs nearest e = wayOver costs nearest (isForbidden x e) e
 
@@ -153,7 +150,7 @@ abbrev pub preferred : Way → BeltId → ℕ → Bool → Way
 preferred way e c required =
     elim required [
       | true ↦ elim (way .required) [
-        | true ↦ record { cost = costLimit; belt = e; required = true }
+        | true ↦ record { cost = costLimit; belt = way .belt; required = true }
         | false ↦ record { cost = c; belt = e; required = true }
       ]
       | false ↦ elim (way .required) [

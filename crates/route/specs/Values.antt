@@ -16,6 +16,7 @@
 --   OfNamed b m      the mask m has no other places than those of the named belts of the plan b
 --   subproblemIn b f the subproblem of the plan b that the masks f stand for
 --   namedPlaces b    the places of the named belts of the plan b, as the code looks them up
+--   numbersOf ns     the numbers of the named belts ns, as an array of 48, the rest of it 0
 --   gatheredIn places m es
 --                    the mask m with the places of the belts es, as the array of places has them
 --   Placeable places r
@@ -50,7 +51,7 @@ use Rattle.plan.specs.declared.named.Place.{Place}
 use Rattle.plan.specs.declared.named.Place.the-variants.{At, Unnamed}
 use Rattle.plan.specs.Lists.{keep, upto}
 use Rattle.plan.specs.Records.{kind}
-use Rattle.plan.specs.Plan.{Belt, planOf, literalAt, namesOf, leaving, named, beltId, placeOf, placesOf, placeIn}
+use Rattle.plan.specs.Plan.{Belt, planOf, literalAt, namesOf, leaving, named, beltId, listed, placeOf, placesOf, placeIn}
 use Rattle.plan.specs.Reading.{IsBelt, firstRule, nextRule, firstLiteral, nextLiteral}
 use Rattle.route.specs.declared.path.Route.{Route}
 use Rattle.route.specs.declared.sheet.Sheet.{Sheet}
@@ -118,6 +119,9 @@ subproblemIn b f = record { required = fixedIn (named (planOf b)) (f .required);
 
 abbrev pub namedPlaces : List ℕ → List ℕ
 namedPlaces b = placesOf (named (planOf b))
+
+abbrev pub numbersOf : List ℕ → List ℕ
+numbersOf ns = map (λ (e : BeltId). e .0) (listed ns)
 
 abbrev pub gatheredIn : List ℕ → ℕ → List ℕ → ℕ
 gatheredIn places m [] = m

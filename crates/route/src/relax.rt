@@ -1,8 +1,9 @@
 // The relaxed route of a subproblem: the first route from s to t with every required and no forbidden belt, rules left aside.
 //
 // One pass backwards over the junctions from t to s finds for each the cheapest way on to t; one walk forward along the first belts of these
-// ways is the route. The pass reads each belt that leaves a junction from s on and before t at most once, and no other, where belts stand side by
-// side (plan::adjacency); the walk reads those of the route once more, in the plan.
+// ways is the route. Where no required belt leaves a junction the pass reads each belt that leaves it once, where belts stand side by side
+// (plan::adjacency). Where one does, it is found by its place among the named belts, and no other is looked at; it is read in the plan, as the
+// belts of the route are by the walk.
 //
 // A required belt that leaves u cuts: every other belt from a junction ≤ u to one > u drops out. Going backwards the cut needs no search. A
 // belt from u drops out if it leads past the nearest junction above u that a required belt leaves, or if a required belt leaves u and it
@@ -15,22 +16,25 @@ use crate::masks;
 use crate::path::Trip;
 use plan::adjacency;
 use plan::named;
+use plan::named::Named;
+use plan::named::Place;
 use plan::read;
 use plan::read::BeltId;
 ghost use mathlib.Core.Path.{_≡_};
 ghost use Prim.Native.Nat.{ℕ, _≤_, _<_};
 ghost use mathlib.Core.Bool.{true, false, not, _||_};
 ghost use mathlib.Core.Option.{none};
+ghost use lib.Bits.{bitAnd};
 ghost use lib.ListN.{length, getD, replicate};
 ghost use lib.Dec.{ltb};
 ghost use Rattle.plan.specs.Lists.{any, upto};
-ghost use Rattle.plan.specs.Plan.{planOf, namesOf, leaving, placeIn, beltId};
+ghost use Rattle.plan.specs.Plan.{planOf, beltAt, namesOf, leaving, named, listed, placeIn, beltId};
 ghost use Rattle.plan.specs.Adjacency.{arcHead, arcName, arcsIn, endsOf};
-ghost use Rattle.plan.specs.Reading.{Accepted};
+ghost use Rattle.plan.specs.Reading.{Accepted, IsBelt};
 ghost use Rattle.route.specs.Routes.{wrongEnds, costLimit};
 ghost use Rattle.route.specs.Subproblems.{relaxed};
-ghost use Rattle.route.specs.Values.{inMask, LowPlace, OfNamed, subproblemIn, namedPlaces, maskOf, exitsOf, atMost, noSummary, summaryAs, keptOf};
-ghost use Rattle.route.specs.Inner.{Lent, isRequired, arcBelt, wayOver, preferred, noWay, wayBy, wayIn, wayCost, Guides, costsIn, firstsIn, Spared, joinedIn};
+ghost use Rattle.route.specs.Values.{inMask, LowPlace, OfNamed, subproblemIn, namedPlaces, numbersOf, maskOf, exitsOf, atMost, noSummary, summaryAs, keptOf};
+ghost use Rattle.route.specs.Inner.{Lent, isRequired, wayOver, noWay, wayBy, wayIn, wayCost, Guides, costsIn, firstsIn, Spared, joinedIn};
 
 // A subproblem: masks over the named belts of the plan, bit k for the belt at place k among them.
 pub struct Fixings {
@@ -64,11 +68,11 @@ const BELTS: u64 = 2048;
 
 // The cost of the cheapest way on over this belt, by the ways on from later junctions. A forbidden belt drops out, and one that leads past
 // `nearest`.
-fn way_over(ways: &[u64; 257], nearest: usize, arc: u64, forbidden: bool) -> u64
-    requires { ⌜ (arcHead arc < 257) × ((j : ℕ) → getD (costsIn (now ways)) j 0 ≤ costLimit) ⌝ }
-    ensures { λ v. ⌜ v ≡ wayOver (costsIn (now (ways .entry))) nearest forbidden (arcBelt arc) ⌝ }
+fn way_over(p: &[u8], ways: &[u64; 257], nearest: usize, belt: BeltId, forbidden: bool) -> u64
+    requires { ⌜ Accepted (now p) × IsBelt (now p) (belt .0) × ((j : ℕ) → getD (costsIn (now ways)) j 0 ≤ costLimit) ⌝ }
+    ensures { λ v. ⌜ v ≡ wayOver (costsIn (now (ways .entry))) nearest forbidden (beltAt (now (p .entry)) (belt .0)) ⌝ }
 {
-    let to = adjacency::head(arc);
+    let to = read::leads_to(p, belt);
     if forbidden || nearest < to {
         return NO_WAY;
     }
@@ -76,59 +80,36 @@ fn way_over(ways: &[u64; 257], nearest: usize, arc: u64, forbidden: bool) -> u64
     if on == NO_WAY {
         return NO_WAY;
     }
-    adjacency::cost(arc) + on
+    read::cost(p, belt) + on
 }
 
-// The way on from a junction once a required belt of it is looked at: it drops the others, and a second required one itself.
-fn preferred(way: Way, belt: BeltId, cost: u64) -> Way
-    ensures { λ v. ⌜ v ≡ preferred way belt cost true ⌝ }
+// The cheapest way on from junction u where required belts leave it, whose places are the mask `hit`: that over the only one of them, and none
+// where there are more. The belt is the first of them: named belts rise, so it has the lowest place.
+fn by_required(
+    p: &[u8],
+    belts: &[u16; 48],
+    fixings: Fixings,
+    ways: &[u64; 257],
+    nearest: usize,
+    u: usize,
+    hit: u64,
+) -> Way
+    requires { ⌜ Accepted (now p) × (now belts ≡ numbersOf (named (planOf (now p)))) × ((j : ℕ) → getD (costsIn (now ways)) j 0 ≤ costLimit) × (u ≤ planOf (now p) .junctions) × OfNamed (now p) (fixings .required) × (hit ≡ bitAnd (getD (exitsOf (now p)) u 0) (fixings .required)) × (hit ≡ 0 → ⊥) ⌝ }
+    ensures { λ v. ⌜ v ≡ wayBy (subproblemIn (now (p .entry)) fixings) (costsIn (now (ways .entry))) nearest noWay (leaving (planOf (now (p .entry))) u) ⌝ }
 {
-    if way.required {
-        return Way {
-            cost: NO_WAY,
-            belt: belt,
-            required: true,
-        };
+    let k = u64::trailing_zeros(hit) as usize;
+    let number = belts[k];
+    let belt = BeltId(number);
+    let mut cost = NO_WAY;
+    if hit == 1u64 << k {
+        let forbidden = masks::has(fixings.forbidden, Place::At(k));
+        cost = way_over(p, ways, nearest, belt, forbidden);
     }
     Way {
         cost: cost,
         belt: belt,
         required: true,
     }
-}
-
-// The cheapest way on from junction u where a required belt leaves it: no other is looked at.
-fn by_required(
-    p: &[u8],
-    places: &[u8; 2048],
-    ends: &[u16; 257],
-    arcs: &[u64],
-    fixings: Fixings,
-    ways: &[u64; 257],
-    nearest: usize,
-    u: usize,
-) -> Way
-    requires { ⌜ Lent (now p) (now places) (now ends) (now arcs) × ((j : ℕ) → getD (costsIn (now ways)) j 0 ≤ costLimit) × (1 ≤ u) × (u ≤ planOf (now p) .junctions) × (any (isRequired (subproblemIn (now p) fixings)) (leaving (planOf (now p)) u) ≡ true) ⌝ }
-    ensures { λ v. ⌜ v ≡ wayBy (subproblemIn (now (p .entry)) fixings) (costsIn (now (ways .entry))) nearest noWay (leaving (planOf (now (p .entry))) u) ⌝ }
-{
-    let mut way = Way {
-        cost: NO_WAY,
-        belt: BeltId(0),
-        required: false,
-    };
-    let end = ends[u] as usize;
-    let mut i = ends[u - 1] as usize;
-    while i < end {
-        let arc = arcs[i];
-        let belt = adjacency::name(arc);
-        let place = named::place_of(places, belt);
-        if masks::has(fixings.required, place) {
-            let over = way_over(ways, nearest, arc, masks::has(fixings.forbidden, place));
-            way = preferred(way, belt, over);
-        }
-        i += 1;
-    }
-    way
 }
 
 // Whether a belt is not forbidden and leads no further than `nearest`.
@@ -179,10 +160,11 @@ fn cheapest(
     }
 }
 
-// The cheapest way on from junction u. `exits` tells whether a required belt leaves it.
+// The cheapest way on from junction u. `exits` tells which required belts leave it.
 fn way_from(
     p: &[u8],
     places: &[u8; 2048],
+    belts: &[u16; 48],
     ends: &[u16; 257],
     arcs: &[u64],
     exits: &[u64; 257],
@@ -191,13 +173,14 @@ fn way_from(
     nearest: usize,
     u: usize,
 ) -> Way
-    requires { ⌜ Lent (now p) (now places) (now ends) (now arcs) × (now exits ≡ exitsOf (now p)) × ((j : ℕ) → getD (costsIn (now ways)) j 0 ≤ costLimit) × (1 ≤ u) × (u ≤ planOf (now p) .junctions) × OfNamed (now p) (fixings .required) ⌝ }
+    requires { ⌜ Lent (now p) (now places) (now ends) (now arcs) × (now exits ≡ exitsOf (now p)) × ((j : ℕ) → getD (costsIn (now ways)) j 0 ≤ costLimit) × (1 ≤ u) × (u ≤ planOf (now p) .junctions) × OfNamed (now p) (fixings .required) × (now belts ≡ numbersOf (named (planOf (now p)))) ⌝ }
     ensures { λ v. ⌜ v ≡ wayBy (subproblemIn (now (p .entry)) fixings) (costsIn (now (ways .entry))) nearest noWay (leaving (planOf (now (p .entry))) u) ⌝ }
 {
-    if exits[u] & fixings.required == 0 {
+    let hit = exits[u] & fixings.required;
+    if hit == 0 {
         return cheapest(p, places, ends, arcs, fixings, ways, nearest, u);
     }
-    by_required(p, places, ends, arcs, fixings, ways, nearest, u)
+    by_required(p, belts, fixings, ways, nearest, u, hit)
 }
 
 // The pass backwards: the cost of the way on from s, or NO_WAY where there is none or it costs more than `bound`. `nearest` is the nearest junction
@@ -206,6 +189,7 @@ fn way_from(
 fn ways_to(
     p: &[u8],
     places: &[u8; 2048],
+    belts: &[u16; 48],
     ends: &[u16; 257],
     arcs: &[u64],
     exits: &[u64; 257],
@@ -215,14 +199,25 @@ fn ways_to(
     t: usize,
     ways: &mut [u64; 257],
 ) -> u64
-    requires { ⌜ Lent (now p) (now places) (now ends) (now arcs) × (now exits ≡ exitsOf (now p)) × (1 ≤ s) × (s ≤ t) × (t ≤ planOf (now p) .junctions) × OfNamed (now p) (fixings .required) × (bound < costLimit) × (now ways ≡ replicate 257 0) ⌝ }
+    requires { ⌜ Lent (now p) (now places) (now ends) (now arcs) × (now exits ≡ exitsOf (now p)) × (1 ≤ s) × (s ≤ t) × (t ≤ planOf (now p) .junctions) × OfNamed (now p) (fixings .required) × (bound < costLimit) × (now ways ≡ replicate 257 0) × (now belts ≡ numbersOf (named (planOf (now p)))) ⌝ }
     ensures { λ v. ⌜ (v ≡ wayCost (atMost bound (wayIn (now (p .entry)) fixings t s))) × (v ≤ bound → Guides (now (p .entry)) fixings t s (firstsIn (now (ways .exit)))) × Spared s t (now (ways .exit)) ⌝ }
 {
     let mut nearest = t;
     let mut u = t;
     while s < u {
         u -= 1;
-        let way = way_from(p, places, ends, arcs, exits, fixings, ways, nearest, u);
+        let way = way_from(
+            p,
+            places,
+            belts,
+            ends,
+            arcs,
+            exits,
+            fixings,
+            ways,
+            nearest,
+            u,
+        );
         let belt = way.belt;
         ways[u] = way.cost * BELTS + belt.0 as u64;
         if way.required {
@@ -330,12 +325,13 @@ fn nothing() -> Summary
 }
 
 // The relaxed route from s to t of a subproblem, if it costs at most `bound`: the numbers of its belts are put into `kept`, from the first place on,
-// and nothing else of it changes. What is lent is made once for all subproblems of a plan: the places of its named belts (plan::named::named_places), its belts
-// side by side (plan::adjacency::decode), and the named belts that leave each junction (`exits`). `ways` is room to work in, all 0 before and
-// after.
+// and nothing else of it changes. What is lent is made once for all subproblems of a plan: the places of its named belts (plan::named::named_places)
+// and their numbers (`numbers`), its belts side by side (plan::adjacency::decode), and the named belts that leave each junction (`exits`). `ways`
+// is room to work in, all 0 before and after.
 pub fn relaxed_route(
     p: &[u8],
     places: &[u8; 2048],
+    belts: &[u16; 48],
     ends: &[u16; 257],
     arcs: &[u64],
     exits: &[u64; 257],
@@ -345,7 +341,7 @@ pub fn relaxed_route(
     ways: &mut [u64; 257],
     kept: &mut [u16; 255],
 ) -> Summary
-    requires { ⌜ Accepted (now p) × (now places ≡ namedPlaces (now p)) × (now ends ≡ endsOf (planOf (now p))) × (now arcs ≡ arcsIn (length (now arcs)) (planOf (now p))) × (now exits ≡ exitsOf (now p)) × (wrongEnds (planOf (now p)) (trip .s) (trip .t) ≡ false) × OfNamed (now p) (fixings .required) × (bound < costLimit) × (now ways ≡ replicate 257 0) ⌝ }
+    requires { ⌜ Accepted (now p) × (now places ≡ namedPlaces (now p)) × (now ends ≡ endsOf (planOf (now p))) × (now arcs ≡ arcsIn (length (now arcs)) (planOf (now p))) × (now exits ≡ exitsOf (now p)) × (wrongEnds (planOf (now p)) (trip .s) (trip .t) ≡ false) × OfNamed (now p) (fixings .required) × (bound < costLimit) × (now ways ≡ replicate 257 0) × (now belts ≡ numbersOf (named (planOf (now p)))) ⌝ }
     ensures { λ v. ⌜ (v ≡ summaryAs (now (p .entry)) (atMost bound (relaxed (planOf (now (p .entry))) (trip .s) (trip .t) (subproblemIn (now (p .entry)) fixings)))) × (now (ways .exit) ≡ now (ways .entry)) × (now (kept .exit) ≡ keptOf (atMost bound (relaxed (planOf (now (p .entry))) (trip .s) (trip .t) (subproblemIn (now (p .entry)) fixings))) (now (kept .entry))) ⌝ }
 {
     if !may_lead(p, exits, trip, fixings) {
@@ -353,13 +349,40 @@ pub fn relaxed_route(
     }
     let s = trip.s as usize;
     let t = trip.t as usize;
-    let cost = ways_to(p, places, ends, arcs, exits, fixings, bound, s, t, ways);
+    let cost = ways_to(
+        p,
+        places,
+        belts,
+        ends,
+        arcs,
+        exits,
+        fixings,
+        bound,
+        s,
+        t,
+        ways,
+    );
     let mut summary = nothing();
     if cost != NO_WAY {
         summary = walk(p, places, fixings, cost, ways, s, t, kept);
     }
     clear(ways, s, t);
     summary
+}
+
+// The numbers of an accepted plan's named belts, which are lent as plan::named::named_belts answers them, for `relaxed_route`.
+pub fn numbers(p: &[u8], list: Named) -> [u16; 48]
+    requires { ⌜ Accepted (now p) × (list .belts ≡ listed (named (planOf (now p)))) ⌝ }
+    ensures { λ v. ⌜ v ≡ numbersOf (named (planOf (now (p .entry)))) ⌝ }
+{
+    let mut belts = [0u16; 48];
+    let mut k = 0;
+    while k < 48 {
+        let belt = list.belts[k];
+        belts[k] = belt.0;
+        k += 1;
+    }
+    belts
 }
 
 // The named belts that leave junction u, as a mask.

@@ -13,8 +13,8 @@
 --   Deep p xs           of the waiting subproblems each fixes at least as many named belts as there are older ones
 --   Valid b v           a Search of the plan b: its masks are over the named belts, each waiting subproblem fixes enough of them, the best
 --                       is of belts of the plan, and what is not in use is 0. So equal states are equal values (Claims.antt)
---   Ready b places ends arcs exits clauses counts q
---                       what a search of the plan b goes by: it is accepted, `places` and `counts` are those of its named belts, `ends` and
+--   Ready b places belts ends arcs exits clauses counts q
+--                       what a search of the plan b goes by: it is accepted, `places`, `belts` and `counts` are those of its named belts, `ends` and
 --                       `arcs` its belts side by side, `exits` the named belts that leave each junction, `clauses` its rules, and s and t are junctions
 --   stepIn b q v        one step of the query q from the state that a Search stands for
 --   newestOf v          the masks of the newest subproblem that waits
@@ -40,7 +40,7 @@ use Rattle.route.specs.declared.path.Trip.{Trip}
 use Rattle.route.specs.declared.relax.Fixings.{Fixings}
 use Rattle.route.specs.Routes.{wrongEnds, cost, costLimit}
 use Rattle.route.specs.Subproblems.{Subproblem, relaxed}
-use Rattle.route.specs.Values.{idsOf, packed, Known, routeIn, OfNamed, subproblemIn, namedPlaces, exitsOf, atMost, keptOf, clausesOf}
+use Rattle.route.specs.Values.{idsOf, packed, Known, routeIn, OfNamed, subproblemIn, namedPlaces, numbersOf, exitsOf, atMost, keptOf, clausesOf}
 use Rattle.search.specs.declared.query.Query.{Query}
 use Rattle.search.specs.declared.pick.Counts.{Counts}
 use Rattle.search.specs.declared.state.Search.{Search}
@@ -103,9 +103,10 @@ pub record Valid (b : List ℕ) (v : Search) : Type 0 where
   pub rest-zero : v .best ≡ packed (idsOf (v .best))
   pub unheld : v .found ≡ false → v .best ≡ packed []
 
-pub record Ready (b : List ℕ) (places ends arcs exits clauses : List ℕ) (counts : Counts) (q : Query) : Type 0 where
+pub record Ready (b : List ℕ) (places belts ends arcs exits clauses : List ℕ) (counts : Counts) (q : Query) : Type 0 where
   pub accepted : Accepted b
   pub placed : places ≡ namedPlaces b
+  pub numbered : belts ≡ numbersOf (named (planOf b))
   pub ended : ends ≡ endsOf (planOf b)
   pub listed : arcs ≡ arcsIn (length arcs) (planOf b)
   pub left : exits ≡ exitsOf b

@@ -117,11 +117,22 @@ fn find_over(p: &[u8], query: Query, ends: &[u16; 257], arcs: &[u64], out: &mut 
 {
     let list = named::named_belts(p);
     let places = named::places_among(p, list);
+    let belts = relax::numbers(p, list);
     let exits = relax::exits(p, &places, ends, arcs);
     let mut clauses = [0u32; 2048];
     clauses::decode(p, &places, &mut clauses);
     let counts = pick::rule_counts(p, &places, list.count);
-    let stepped = run::run(p, &places, ends, arcs, &exits, &clauses, counts, query);
+    let stepped = run::run(
+        p,
+        &places,
+        &belts,
+        ends,
+        arcs,
+        &exits,
+        &clauses,
+        counts,
+        query,
+    );
     let search = stepped.search;
     let ending = stepped.ending;
     match ending {

@@ -15,6 +15,7 @@ ghost use Rattle.search.specs.Values.{turnIn, Valid, boundIn, Ready};
 pub fn run(
     p: &[u8],
     places: &[u8; 2048],
+    belts: &[u16; 48],
     ends: &[u16; 257],
     arcs: &[u64],
     exits: &[u64; 257],
@@ -22,7 +23,7 @@ pub fn run(
     counts: Counts,
     query: Query,
 ) -> Stepped
-    requires { ⌜ Ready (now p) (now places) (now ends) (now arcs) (now exits) (now clauses) counts query ⌝ }
+    requires { ⌜ Ready (now p) (now places) (now belts) (now ends) (now arcs) (now exits) (now clauses) counts query ⌝ }
     ensures { λ v. ⌜ (turnIn (now (p .entry)) v ≡ run (problemIn (now (p .entry)) query) (query .budget)) × Valid (now (p .entry)) (v .search) × (v .bound ≡ boundIn (now (p .entry)) (v .search)) ⌝ }
 {
     let mut ways = [0u64; 257];
@@ -39,6 +40,7 @@ pub fn run(
                 stepped = stepped.search.step(
                     p,
                     places,
+                    belts,
                     ends,
                     arcs,
                     exits,

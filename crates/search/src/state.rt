@@ -150,7 +150,7 @@ fn child(fixings: Fixings, k: usize, required: bool) -> Fixings
 }
 
 impl Search {
-    // One step. What is lent is made once for all steps: the places of the plan's named belts (plan::named::named_places), its belts side by side
+    // One step. What is lent is made once for all steps: the places of the plan's named belts (plan::named::named_places) and their numbers (route::relax::numbers), its belts side by side
     // (plan::adjacency::decode), the named belts that leave each junction (route::relax::exits), its rules (route::clauses::decode) and the counts
     // (pick::rule_counts). `bound` is that of the search, as a step hands it back with it. `ways` and `kept` are room to work in: `ways` is all 0 before
     // and after, and `kept` has the relaxed route of the subproblem that was opened, over what it had before.
@@ -160,6 +160,7 @@ impl Search {
         mut self,
         p: &[u8],
         places: &[u8; 2048],
+        belts: &[u16; 48],
         ends: &[u16; 257],
         arcs: &[u64],
         exits: &[u64; 257],
@@ -170,7 +171,7 @@ impl Search {
         ways: &mut [u64; 257],
         kept: &mut [u16; 255],
     ) -> Stepped
-        requires { ⌜ Ready (now p) (now places) (now ends) (now arcs) (now exits) (now clauses) counts query × Valid (now p) self × (self .opened ≤ query .budget) × (bound ≡ boundIn (now p) self) × (now ways ≡ replicate 257 0) × (length (now kept) ≡ 255) ⌝ }
+        requires { ⌜ Ready (now p) (now places) (now belts) (now ends) (now arcs) (now exits) (now clauses) counts query × Valid (now p) self × (self .opened ≤ query .budget) × (bound ≡ boundIn (now p) self) × (now ways ≡ replicate 257 0) × (length (now kept) ≡ 255) ⌝ }
         ensures { λ v. ⌜ (turnIn (now (p .entry)) v ≡ stepIn (now (p .entry)) query self) × Valid (now (p .entry)) (v .search) × (v .bound ≡ boundIn (now (p .entry)) (v .search)) × (now (ways .exit) ≡ now (ways .entry)) × (now (kept .exit) ≡ keptIn (now (p .entry)) query self (now (kept .entry))) ⌝ }
     {
         if self.count == 0 || self.opened == query.budget {
@@ -192,6 +193,7 @@ impl Search {
         let summary = relax::relaxed_route(
             p,
             places,
+            belts,
             ends,
             arcs,
             exits,

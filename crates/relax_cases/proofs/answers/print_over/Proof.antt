@@ -32,19 +32,25 @@ exits-requires c κs =
     let start = decoded .before .before .before in
     (start .pre .0, start .pre .1, decoded .decode .ensures .0, arcs decoded)
 
+named-belts-requires : tie.Need-named-belts-requires
+named-belts-requires c κs = search needs
+
+numbers-requires : tie.Need-numbers-requires
+numbers-requires c κs = search needs
+
 slice-aggregate-relaxed-route : tie.Need-slice-aggregate-relaxed-route
 slice-aggregate-relaxed-route c = search needs
 
 relaxed-route-requires : tie.Need-relaxed-route-requires
 relaxed-route-requires c κs =
-    let left = c .before .before .before .before .before in
+    let left = c .before .before .before .before .before .before .before .before in
     let decoded = left .before .before .before .before in
     let start = decoded .before .before .before in
-    (start .pre .0, start .pre .1, decoded .decode .ensures .0, arcs decoded, left .exits .ensures, start .pre .2, start .pre .3, omega arith, refl)
+    (start .pre .0, start .pre .1, decoded .decode .ensures .0, arcs decoded, left .exits .ensures, start .pre .2, start .pre .3, omega arith, refl, c .before .before .before .before .before .before .numbers .ensures)
 
 print-relaxed-requires : tie.Need-print-relaxed-requires
 print-relaxed-requires c κs =
-    let a = c .before .before .before .before .before .before .before .before .before .before .before .before .before .before .args in
+    let a = c .before .before .before .before .before .before .before .before .before .before .before .before .before .before .before .before .before .args in
     let b = a .p .now in
     let way = atMost 281474976710655 (relaxed (planOf b) (a .trip .s) (a .trip .t) (subproblemIn b (a .fixings))) in
     ap length (c .before .relaxed-route .ensures .2) ∙ kept-size way (replicate 255 0)
@@ -60,6 +66,8 @@ print-over-spec =
     decode-requires
     slice-aggregate-exits
     exits-requires
+    named-belts-requires
+    numbers-requires
     slice-aggregate-relaxed-route
     relaxed-route-requires
     print-relaxed-requires

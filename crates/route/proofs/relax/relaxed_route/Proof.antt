@@ -45,7 +45,7 @@ ways-to-requires c κs =
     let from = asked .before .before .before in
     let h = from .pre in
     let forward = asked .may-lead .ensures .0 (not-false _ (c .before .if1 .left)) .0 in
-    (record { accepted = h .0; placed = h .1; ended = h .2; listed = h .3 }, h .4, ends from .0, forward, ends from .3, h .6, h .7, h .8)
+    (record { accepted = h .0; placed = h .1; ended = h .2; listed = h .3 }, h .4, ends from .0, forward, ends from .3, h .6, h .7, h .8, h .9)
 
 -- the pass was asked for where the way on from s is the relaxed route
 abbrev asked : tie.After-ways-to → tie.After-may-lead

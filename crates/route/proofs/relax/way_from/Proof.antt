@@ -1,4 +1,4 @@
--- `route::relax::way_from` meets its contract: the mask of the junction tells whether a required belt leaves it. Assumes nothing.
+-- `route::relax::way_from` meets its contract: the mask of the junction tells which required belts leave it. Assumes nothing.
 use mathlib.Core.Path.{sym, _∙_, ap}
 use Prim.Native.Nat.{ℕ, _<_}
 use mathlib.Core.List.{List}
@@ -7,7 +7,7 @@ use borrow.Author.Needs.{needs}
 use lib.Bits.{bitAnd}
 use lib.ListN.{getD}
 use Rattle.plan.proofs.Reading.{plan-sizes}
-use Rattle.route.proofs.Exits.{none-required, some-required}
+use Rattle.route.proofs.Exits.{none-required}
 use Rattle.route.proofs.relax.way_from.Statement.{statement}
 use Rattle.route.proofs.relax.way_from.Tie as tie
 
@@ -15,11 +15,11 @@ use Rattle.route.proofs.relax.way_from.Tie as tie
 below : (c : tie.Start) → c .args .u < 257
 below c = omega (arith, c .pre .4, plan-sizes (c .pre .0 .accepted) .1)
 
-mul-if1 : tie.Need-mul-if1
-mul-if1 c = omega (arith, below (c .before .before))
+mul-hit : tie.Need-mul-hit
+mul-hit c = omega (arith, below (c .before .before))
 
-element-copy-out-if1 : tie.Need-element-copy-out-if1
-element-copy-out-if1 c = below (c .before .before)
+element-copy-out-hit : tie.Need-element-copy-out-hit
+element-copy-out-hit c = below (c .before .before)
 
 cheapest-requires : tie.Need-cheapest-requires
 cheapest-requires c κs =
@@ -37,8 +37,8 @@ by-required-requires c κs =
     let start = c .before .before .before .before .before in
     let a = start .args in
     let h = start .pre in
-    let exit = ap (λ (exits : List ℕ). bitAnd (getD exits (a .u) 0) (a .fixings .required)) (h .1) in
-    (h .0, h .2, h .3, h .4, some-required (h .0 .accepted) (a .fixings) (a .u) (below start) (h .5) (λ z. c .if1 .left (exit ∙ z)))
+    let hit = ap (λ (exits : List ℕ). bitAnd (getD exits (a .u) 0) (a .fixings .required)) (h .1) in
+    (h .0 .accepted, h .6, h .2, h .4, h .5, hit, c .if1 .left)
 
 returns-2 : tie.Need-returns-2
 returns-2 c = search needs
@@ -46,4 +46,4 @@ returns-2 c = search needs
 pub way-from-spec : {M : Type 1} → statement M
 way-from-spec =
     tie.close
-    (tie.spec mul-if1 element-copy-out-if1 cheapest-requires returns by-required-requires returns-2)
+    (tie.spec mul-hit element-copy-out-hit cheapest-requires returns by-required-requires returns-2)

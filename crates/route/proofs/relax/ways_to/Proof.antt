@@ -24,10 +24,10 @@ abbrev Done : List ℕ → Subproblem → ℕ → ℕ → ℕ → List ℕ → T
 Done p x t u nearest ways = Passed p x t u nearest (costsIn ways) (firstsIn ways)
 
 abbrev Inv-loop : tie.InvT-loop
-Inv-loop p places ends arcs exits fixings bound s t ways₀ nearest₀ u₀ ways nearest u = Done p (subproblemIn p fixings) t u nearest ways × Spared s t ways
+Inv-loop p places belts ends arcs exits fixings bound s t ways₀ nearest₀ u₀ ways nearest u = Done p (subproblemIn p fixings) t u nearest ways × Spared s t ways
 
 abbrev μ-loop : tie.MeasureT-loop
-μ-loop p places ends arcs exits fixings bound s t ways₀ nearest₀ u₀ ways nearest u = u
+μ-loop p places belts ends arcs exits fixings bound s t ways₀ nearest₀ u₀ ways nearest u = u
 
 -- s and t are junctions, and there are at most 256
 inside : (c : tie.Start Inv-loop μ-loop) → (c .args .s < 257) × (c .args .t < 257)
@@ -57,7 +57,7 @@ way-from-requires c κs =
     let turn = c .before in
     let done = turn .before .loop .inv .0 in
     let h = turn .before .before .before .before .pre in
-    (h .0, h .1, done .low, omega (arith, turn .loop-test .taken, h .2), omega (arith, done .inside, h .4), h .5)
+    (h .0, h .1, done .low, omega (arith, turn .loop-test .taken, h .2), omega (arith, done .inside, h .4), h .5, h .8)
 
 -- a turn: where it was begun, and where the pass was asked for
 abbrev turn-of : tie.After-way-from Inv-loop μ-loop → tie.In-loop Inv-loop μ-loop

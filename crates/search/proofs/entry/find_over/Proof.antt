@@ -13,6 +13,9 @@ named-belts-requires c κs = search needs
 places-among-requires : tie.Need-places-among-requires
 places-among-requires c κs = search needs
 
+numbers-requires : tie.Need-numbers-requires
+numbers-requires c κs = search needs
+
 exits-requires : tie.Need-exits-requires
 exits-requires c κs = search needs
 
@@ -30,17 +33,17 @@ enum-told c = search needs
 
 -- where the run began
 abbrev begun : tie.After-run → tie.Start
-begun c = c .before .before .before .before .before .before .before .before .before .before .before .before .before .before .before .before
+begun c = c .before .before .before .before .before .before .before .before .before .before .before .before .before .before .before .before .before .before
 
 -- where its rules were made
 abbrev ruled : tie.After-run → tie.After-decode
-ruled c = c .before .before .before .before .before .before
+ruled c = c .before .before .before .before .before .before .before
 
 write-best-requires : tie.Need-write-best-requires
 write-best-requires c κs =
     let ran = c .before .before .before .before .before .before in
     let start = begun ran in
-    let places = ran .before .before .before .before .before .before .before .before .before .before .before .places-among .ensures in
+    let places = ran .before .before .before .before .before .before .before .before .before .before .before .before .before .places-among .ensures in
     (start .pre .0, places, ruled ran .decode .ensures, ran .run .ensures .1, start .pre .2)
 
 enum-told-2 : tie.Need-enum-told-2
@@ -99,6 +102,7 @@ find-over-spec =
     (tie.spec
     named-belts-requires
     places-among-requires
+    numbers-requires
     exits-requires
     decode-requires
     rule-counts-requires

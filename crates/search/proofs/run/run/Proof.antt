@@ -13,11 +13,11 @@ use Rattle.search.proofs.run.run.Statement.{statement}
 use Rattle.search.proofs.run.run.Tie as tie
 
 abbrev Inv-loop : tie.InvT-loop
-Inv-loop p places ends arcs exits clauses counts query ways₀ kept₀ stepped₀ ways kept stepped =
+Inv-loop p places belts ends arcs exits clauses counts query ways₀ kept₀ stepped₀ ways kept stepped =
     Handed p query stepped (stepped .ending) × (stepped .bound ≡ boundIn p (stepped .search)) × (ways ≡ replicate 257 0) × (length kept ≡ 255)
 
 abbrev μ-loop : tie.MeasureT-loop
-μ-loop p places ends arcs exits clauses counts query ways₀ kept₀ stepped₀ ways kept stepped = left query stepped (stepped .ending)
+μ-loop p places belts ends arcs exits clauses counts query ways₀ kept₀ stepped₀ ways kept stepped = left query stepped (stepped .ending)
 
 begin-requires : tie.Need-begin-requires Inv-loop μ-loop
 begin-requires c κs = search needs

@@ -123,6 +123,7 @@ relaxed-route-requires c κs =
       taken goes .required,
       subst (λ (k : ℕ). k < costLimit) (sym (pre .3)) low,
       pre .4,
+      ready .numbered,
     )
 
 -- the relaxed route of the newest
