@@ -4,7 +4,7 @@ use crate::read::BeltId;
 use crate::record;
 ghost use mathlib.Core.Path.{_≡_};
 ghost use Prim.Native.Nat.{_<_};
-ghost use lib.ListN.{length};
+ghost use lib.ListN.{length, replicate};
 ghost use Rattle.plan.specs.Plan.{planOf, named, listed, placesOf, placeIn};
 ghost use Rattle.plan.specs.Reading.{Accepted};
 
@@ -44,19 +44,18 @@ pub fn named_belts(p: &[u8]) -> Named
     }
 }
 
-// The places of all belts among the named belts of an accepted plan, which are lent as `named_belts` answers them, for `place_of`.
-pub fn places_among(p: &[u8], list: Named) -> [u8; 2048]
-    requires { ⌜ Accepted (now p) × (list .count ≡ length (named (planOf (now p)))) × (list .belts ≡ listed (named (planOf (now p)))) ⌝ }
-    ensures { λ v. ⌜ v ≡ placesOf (named (planOf (now (p .entry)))) ⌝ }
+// Puts the places of all belts among the named belts of an accepted plan, which are lent as `named_belts` answers them, into an array that is all 0
+// before, for `place_of`.
+pub fn places_among(p: &[u8], list: Named, places: &mut [u8; 2048])
+    requires { ⌜ Accepted (now p) × (list .count ≡ length (named (planOf (now p)))) × (list .belts ≡ listed (named (planOf (now p)))) × (now places ≡ replicate 2048 0) ⌝ }
+    ensures { λ _. ⌜ now (places .exit) ≡ placesOf (named (planOf (now (p .entry)))) ⌝ }
 {
-    let mut places = [0u8; 2048];
     let mut k = 0;
     while k < list.count {
         let belt = list.belts[k];
         k += 1;
         places[belt.0 as usize] = k as u8;
     }
-    places
 }
 
 // The places of all belts among the named belts of an accepted plan.
@@ -64,7 +63,9 @@ pub fn named_places(p: &[u8]) -> [u8; 2048]
     requires { ⌜ Accepted (now p) ⌝ }
     ensures { λ v. ⌜ v ≡ placesOf (named (planOf (now (p .entry)))) ⌝ }
 {
-    places_among(p, named_belts(p))
+    let mut places = [0u8; 2048];
+    places_among(p, named_belts(p), &mut places);
+    places
 }
 
 // The place of a belt, out of the array of all places.

@@ -94,7 +94,8 @@ fn print_over(p: &[u8], places: &[u8; 2048], trip: Trip, fixings: Fixings)
 {
     let mut arcs = [0u64; 2048];
     let ends = plan::adjacency::decode(p, &mut arcs);
-    let exits = route::relax::exits(p, places, &ends, &arcs);
+    let mut exits = [0u64; 257];
+    route::relax::exits(p, places, &ends, &arcs, &mut exits);
     let belts = route::relax::numbers(p, plan::named::named_belts(p));
     let mut ways = [0u64; 257];
     let mut kept = [0u16; 255];

@@ -3,43 +3,45 @@
 --   stores-at         after storing, a place of the list has what is stored there, and any other what it had; stores-append: one list after another
 --   rule-low, literal-low, next-rule-low, first-literal-low, next-literal-low
 --                     rules and literals, and what a record of them leads to, are below 2,048
+--   some-records      there is a record 0
 --   rule-entry, literal-entry
 --                     the entry of a rule, and of a literal
 --   first-entry, rule-parts, literal-parts
---                     the entry of clausesOf for record 0, and the two parts of that for a rule and for a literal
+--                     the entry of record 0 in an array of all, and the two parts of that of a rule and of a literal
+--   clauses-lent      an array of n entries has one for each record, if there are at most n records
 -- The literals of a rule, one after the other:
 --   LiteralsStored b old first now l
 --                     storing the entries from literal l on makes of the array `now` what storing those from `first` on makes of `old`
---   literals-start, -stored, -end
---                     so it is at first; the next entry is stored; at the end nothing is left
+--   literals-start, -stored, -size, -end
+--                     so it is at first; the next entry is stored; the arrays are of one length; at the end nothing is left
 -- The rules, one after the other:
 --   recordsFrom b r   the records of the rules from r on: of each its own, and those of its literals
---   RulesStored b now r
---                     storing the entries from rule r on makes of the array `now` what storing all makes of a fresh one
---   rules-start, -stored, -end
---                     the same of the rules; at the end the array is clausesOf
+--   RulesStored b n now r
+--                     storing the entries from rule r on makes of the array `now` what storing all makes of a fresh one of n
+--   rules-start, -stored, -size, -end
+--                     the same of the rules; at the end the array is clausesIn n
 --
 -- Every rule and every literal of an accepted plan stands on a chain, so nothing else has an entry. Assumes nothing.
 use mathlib.Core.Path.{_≡_, refl, sym, _∙_, ap, subst}
 use mathlib.Core.Logic.{_⊎_, inl, inr}
 use mathlib.Core.Bool.{Bool, true, false, _||_}
-use Prim.Native.Nat.{ℕ, zero, suc, _+_, _*_, _/_, _%_, _≤_, _<_}
+use Prim.Native.Nat.{ℕ, zero, suc, _+_, _*_, _-_, _/_, _%_, _≤_, _<_}
 use mathlib.Core.List.{List, [], _∷_, _++_, List·Memᴰ, List·Memᴰ·head, List·Memᴰ·tail}
 use native.Mathlib.Omega.{arith}
-use lib.ListN.{length, getD, set, replicate, length-set, length-replicate, getD-replicate, List·getD-eq-default}
+use lib.ListN.{length, getD, set, replicate, length-set, length-map, length-replicate, getD-replicate, List·getD-eq-default}
 use lib.Seq.{getD-set-same, getD-set-other}
 use lib.Dec.{eqb, ltb}
 use borrow.Author.Tests.{eqb-true, eqb-false, eq-eqb, ne-eqb, ltb-true, ltb-false}
-use Rattle.plan.specs.Lists.{mem, joined}
+use Rattle.plan.specs.Lists.{mem, joined, run}
 use Rattle.plan.specs.Records.{kind, records, IsKind, chain}
 use Rattle.plan.specs.Plan.{literalAt}
 use Rattle.plan.specs.Limits.{Limits}
 use Rattle.plan.specs.Reading.{Accepted, IsRule, IsLiteral, firstRule, nextRule, firstLiteral, nextLiteral}
-use Rattle.plan.proofs.Lists.{test, never, untrue, in-mem, in-joined, getD-first, map-first}
+use Rattle.plan.proofs.Lists.{test, never, untrue, in-mem, in-joined, length-run, getD-first, map-first}
 use Rattle.plan.proofs.Chains.{chain-end, rule-step, literal-step, rule-reached, literal-reached}
 use Rattle.plan.proofs.Limits.{accepted-limits}
 use Rattle.plan.proofs.Reading.{first-rule-is, next-rule-is, first-literal-is, next-literal-is, links}
-use Rattle.route.specs.Values.{namedPlaces, codeIn, ruleEntry, literalEntry, entryBy, entryOf, clausesOf}
+use Rattle.route.specs.Values.{namedPlaces, codeIn, ruleEntry, literalEntry, entryBy, entryOf, clausesIn, Clauses}
 use Rattle.route.specs.Inner.{stores}
 
 -- ---- storing
@@ -82,9 +84,18 @@ below : (n : ℕ) → ((n ≡ 0 → ⊥) → n < 2048) → n < 2048
 below zero h = omega arith
 below (suc n) h = h (λ e. omega arith)
 
-entry-at : (b : List ℕ) (i : ℕ) → i < 2048 → getD (clausesOf b) i 0 ≡ entryOf b i
-unfolding clausesOf
-entry-at b i h = getD-first (entryOf b) 2048 i 0 h
+entry-at : (b : List ℕ) (n i : ℕ) → i < n → getD (clausesIn n b) i 0 ≡ entryOf b i
+unfolding clausesIn
+entry-at b n i h = getD-first (entryOf b) (n - 0) i 0 (omega arith)
+
+length-clauses : (b : List ℕ) (n : ℕ) → length (clausesIn n b) ≡ n
+unfolding clausesIn
+length-clauses b n = omega (arith, length-map (run 0 (n - 0)) (entryOf b), length-run 0 (n - 0))
+
+pub clauses-lent : {b : List ℕ} (n : ℕ) {cs : List ℕ} → records b ≤ n → cs ≡ clausesIn n b → Clauses b cs
+clauses-lent {b} n {cs} h e =
+    let size : length cs ≡ n = ap length e ∙ length-clauses b n in
+    record { whole = e ∙ sym (ap (λ (m : ℕ). clausesIn m b) size); room = omega arith }
 
 -- a number of two parts
 parts : (x y n : ℕ) → n ≡ x + 65536 * y → x < 2048 → (n % 65536 ≡ x) × (n / 65536 ≡ y)
@@ -93,6 +104,9 @@ parts x y n e h = (omega arith, omega arith)
 module _ {b : List ℕ} (ok : Accepted b) where
   limits : Limits b
   limits = accepted-limits b (ok .unrefused)
+
+  pub some-records : 0 < records b
+  some-records = omega (arith, limits .header .room)
 
   kind-low : {k i : ℕ} → IsKind b k i → i < 2048
   kind-low o = omega (arith, o .0, limits .sizes .few)
@@ -125,21 +139,24 @@ module _ {b : List ℕ} (ok : Accepted b) where
       let no : eqb (kind b (suc l)) 3 ≡ false = ne-eqb (kind b (suc l)) 3 (λ e. omega (arith, o .1)) in
       λ i. entryBy (no i) (eq-eqb (kind b (suc l)) 4 (o .1) i) (ruleEntry b (suc l)) (literalEntry b (suc l))
 
-  module _ {clauses : List ℕ} (all : clauses ≡ clausesOf b) where
+  module _ {clauses : List ℕ} (all : Clauses b clauses) where
+    entry-in : (i : ℕ) → i < records b → getD clauses i 0 ≡ entryOf b i
+    entry-in i h = ap (λ (l : List ℕ). getD l i 0) (all .whole) ∙ entry-at b (length clauses) i (omega (arith, all .room))
+
     pub first-entry : getD clauses 0 0 ≡ firstRule b
     unfolding entryOf
-    first-entry = ap (λ (l : List ℕ). getD l 0 0) all ∙ entry-at b 0 (omega arith)
+    first-entry = entry-in 0 some-records
 
     pub rule-parts : (r : ℕ) → IsRule b r → (getD clauses r 0 % 65536 ≡ nextRule b r) × (getD clauses r 0 / 65536 ≡ firstLiteral b r)
     rule-parts r o =
         parts (nextRule b r) (firstLiteral b r) (getD clauses r 0)
-        (ap (λ (l : List ℕ). getD l r 0) all ∙ entry-at b r (rule-low r o) ∙ rule-entry r o) (next-rule-low r o)
+        (entry-in r (o .0) ∙ rule-entry r o) (next-rule-low r o)
 
     pub literal-parts : (l : ℕ) → IsLiteral b l
         → (getD clauses l 0 % 65536 ≡ nextLiteral b l) × (getD clauses l 0 / 65536 ≡ codeIn (namedPlaces b) (literalAt b l))
     literal-parts l o =
         parts (nextLiteral b l) (codeIn (namedPlaces b) (literalAt b l)) (getD clauses l 0)
-        (ap (λ (c : List ℕ). getD c l 0) all ∙ entry-at b l (literal-low l o) ∙ literal-entry l o) (next-literal-low l o)
+        (entry-in l (o .0) ∙ literal-entry l o) (next-literal-low l o)
 
 -- ---- the literals of a rule, one after the other
 
@@ -153,6 +170,11 @@ module _ {b : List ℕ} (ok : Accepted b) where
       subst (λ (i : ℕ). LiteralsStored b old i old i) (sym e) (record { is-literal = first-literal-is ok r o; whole = refl })
 
   module _ {old now : List ℕ} {first l : ℕ} (h : LiteralsStored b old first now l) where
+    pub literals-size : length now ≡ length old
+    literals-size =
+        let f = entryOf b in
+        sym (length-stores f now (chain b l)) ∙ ap length (h .whole) ∙ length-stores f old (chain b first)
+
     pub literals-end : l ≡ 0 → now ≡ stores (entryOf b) old (chain b first)
     literals-end e = sym (ap (stores (entryOf b) now) (ap (chain b) e ∙ chain-end b)) ∙ h .whole
 
@@ -177,9 +199,9 @@ recordsOf b r = r ∷ chain b (firstLiteral b r)
 abbrev recordsFrom : List ℕ → ℕ → List ℕ
 recordsFrom b r = joined (recordsOf b) (chain b r)
 
-pub record RulesStored (b now : List ℕ) (r : ℕ) : Type 0 where
+pub record RulesStored (b : List ℕ) (n : ℕ) (now : List ℕ) (r : ℕ) : Type 0 where
   pub is-rule : (r ≡ 0 → ⊥) → IsRule b r
-  pub whole : stores (entryOf b) now (recordsFrom b r) ≡ stores (entryOf b) (replicate 2048 0) (0 ∷ recordsFrom b (firstRule b))
+  pub whole : stores (entryOf b) now (recordsFrom b r) ≡ stores (entryOf b) (replicate n 0) (0 ∷ recordsFrom b (firstRule b))
 
 -- behind the records there are only zeros
 past-kind : (b : List ℕ) → Limits b → (i : ℕ) → records b ≤ i → kind b i ≡ 0
@@ -219,35 +241,41 @@ module _ {b : List ℕ} (ok : Accepted b) where
       never (in-mem stored (literal-stored (suc i) (is-kind 4 (suc i) (λ e. omega arith) (eqb-true (kind b (suc i)) 4 t)))) h) in
       λ j. entryBy (rule j) (literal j) (ruleEntry b (suc i)) (literalEntry b (suc i))
 
-  all-stored : stores (entryOf b) (replicate 2048 0) stored ≡ clausesOf b
-  unfolding clausesOf
-  all-stored =
-      let fresh : List ℕ = replicate 2048 0 in
-      let size = length-replicate {A = ℕ} 2048 0 in
-      map-first (entryOf b) 2048 0 (stores (entryOf b) fresh stored) (length-stores (entryOf b) fresh stored ∙ size) (λ i l.
+  all-stored : (n : ℕ) → stores (entryOf b) (replicate n 0) stored ≡ clausesIn n b
+  unfolding clausesIn
+  all-stored n =
+      let fresh : List ℕ = replicate n 0 in
+      let size = length-replicate {A = ℕ} n 0 in
+      map-first (entryOf b) (n - 0) 0 (stores (entryOf b) fresh stored) (omega (arith, length-stores (entryOf b) fresh stored, size)) (λ i l.
       stores-at (entryOf b) fresh stored i (omega (arith, size))
-      ∙ ap (either (mem i stored) (entryOf b i)) (getD-replicate 2048 i 0 0 l)
+      ∙ ap (either (mem i stored) (entryOf b i)) (getD-replicate n i 0 0 (omega arith))
       ∙ go i (mem i stored) refl)
     where
       go : (i : ℕ) (t : Bool) → mem i stored ≡ t → either t (entryOf b i) 0 ≡ entryOf b i
       go i true h = refl
       go i false h = sym (unstored i h)
 
-  pub rules-start : (r : ℕ) → r ≡ firstRule b → RulesStored b (set (replicate 2048 0) 0 r) r
+  pub rules-start : (n r : ℕ) → r ≡ firstRule b → RulesStored b n (set (replicate n 0) 0 r) r
   unfolding entryOf
-  rules-start r e = subst (λ (n : ℕ). RulesStored b (set (replicate 2048 0) 0 n) n) (sym e) (record { is-rule = first-rule-is ok; whole = refl })
+  rules-start n r e = subst (λ (i : ℕ). RulesStored b n (set (replicate n 0) 0 i) i) (sym e) (record { is-rule = first-rule-is ok; whole = refl })
 
-  module _ {now : List ℕ} {r : ℕ} (h : RulesStored b now r) where
-    pub rules-end : r ≡ 0 → now ≡ clausesOf b
+  module _ {n : ℕ} {now : List ℕ} {r : ℕ} (h : RulesStored b n now r) where
+    pub rules-size : length now ≡ n
+    rules-size =
+        let f = entryOf b in
+        let fresh : List ℕ = replicate n 0 in
+        sym (length-stores f now (recordsFrom b r)) ∙ ap length (h .whole) ∙ length-stores f fresh stored ∙ length-replicate {A = ℕ} n 0
+
+    pub rules-end : r ≡ 0 → now ≡ clausesIn n b
     rules-end e =
-        sym (ap (λ (is : List ℕ). stores (entryOf b) now (joined (recordsOf b) is)) (ap (chain b) e ∙ chain-end b)) ∙ h .whole ∙ all-stored
+        sym (ap (λ (is : List ℕ). stores (entryOf b) now (joined (recordsOf b) is)) (ap (chain b) e ∙ chain-end b)) ∙ h .whole ∙ all-stored n
 
-    pub rules-stored : (d : r ≡ 0 → ⊥) (n l : ℕ) → n ≡ nextRule b r → l ≡ firstLiteral b r
-        → (put : List ℕ) → put ≡ stores (entryOf b) (set now r (n + 65536 * l)) (chain b (firstLiteral b r)) → RulesStored b put n
-    rules-stored d n l s q put w =
+    pub rules-stored : (d : r ≡ 0 → ⊥) (m l : ℕ) → m ≡ nextRule b r → l ≡ firstLiteral b r
+        → (put : List ℕ) → put ≡ stores (entryOf b) (set now r (m + 65536 * l)) (chain b (firstLiteral b r)) → RulesStored b n put m
+    rules-stored d m l s q put w =
         let o = h .is-rule d in
         let f = entryOf b in
-        let entry : n + 65536 * l ≡ f r = (λ i. s i + 65536 * q i) ∙ sym (rule-entry ok r o) in
+        let entry : m + 65536 * l ≡ f r = (λ i. s i + 65536 * q i) ∙ sym (rule-entry ok r o) in
         record {
           is-rule = λ z. subst (IsRule b) (sym s) (next-rule-is ok r o (λ e. z (s ∙ e)) .1);
           whole = (λ i. stores f (w i) (recordsFrom b (s i)))

@@ -32,10 +32,12 @@
 --   ruleEntry b r    the entry of rule r of the plan b: the next rule, and 65,536 times its first literal
 --   literalEntry b l the entry of literal l of the plan b: the next literal of its rule, and 65,536 times its code
 --   entryOf b i      the entry of record i of the plan b: of record 0 the first rule, of a rule and of a literal the above, of any other 0 (entryBy)
---   clausesOf b      the entries of the plan b by record index, as an array of 2,048
+--   clausesIn n b    the entries of the plan b by record index, as an array of n
+--   Clauses b cs     the array cs has the entries of the plan b, and one for each of its records
 --   caseOf b trip h  the case of the sheet check
 --
 -- Assumes nothing.
+use mathlib.Core.Path.{_≡_}
 use Prim.Native.Nat.{ℕ, zero, suc, _+_, _*_, _-_, _/_, _%_, _^_, _≤_, _<_}
 use mathlib.Core.Bool.{Bool, true, false}
 use mathlib.Core.Option.{Option, none, some}
@@ -50,7 +52,7 @@ use Rattle.plan.specs.declared.read.Literal.the-variants.{OfBelt, OfMode}
 use Rattle.plan.specs.declared.named.Place.{Place}
 use Rattle.plan.specs.declared.named.Place.the-variants.{At, Unnamed}
 use Rattle.plan.specs.Lists.{keep, upto}
-use Rattle.plan.specs.Records.{kind}
+use Rattle.plan.specs.Records.{kind, records}
 use Rattle.plan.specs.Plan.{Belt, planOf, literalAt, namesOf, leaving, named, beltId, listed, placeOf, placesOf, placeIn}
 use Rattle.plan.specs.Reading.{IsBelt, firstRule, nextRule, firstLiteral, nextLiteral}
 use Rattle.route.specs.declared.path.Route.{Route}
@@ -182,8 +184,12 @@ unfoldable pub entryOf : List ℕ → ℕ → ℕ
 entryOf b zero = firstRule b
 entryOf b (suc i) = entryBy (eqb (kind b (suc i)) 3) (eqb (kind b (suc i)) 4) (ruleEntry b (suc i)) (literalEntry b (suc i))
 
-unfoldable pub clausesOf : List ℕ → List ℕ
-clausesOf b = map (entryOf b) (upto 0 2048)
+unfoldable pub clausesIn : ℕ → List ℕ → List ℕ
+clausesIn n b = map (entryOf b) (upto 0 n)
+
+pub record Clauses (b cs : List ℕ) : Type 0 where
+  pub whole : cs ≡ clausesIn (length cs) b
+  pub room : records b ≤ length cs
 
 -- ---- the sheet check
 

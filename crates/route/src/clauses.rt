@@ -6,11 +6,11 @@ use plan::read;
 use plan::read::Literal;
 use plan::read::RuleId;
 ghost use mathlib.Core.Path.{_≡_};
-ghost use Prim.Native.Nat.{_<_};
-ghost use Rattle.plan.specs.Records.{chain};
-ghost use lib.ListN.{replicate};
+ghost use Prim.Native.Nat.{_≤_, _<_};
+ghost use Rattle.plan.specs.Records.{records, chain};
+ghost use lib.ListN.{length, replicate};
 ghost use Rattle.plan.specs.Reading.{Accepted, IsRule, firstLiteral};
-ghost use Rattle.route.specs.Values.{namedPlaces, codeBy, codeIn, entryOf, clausesOf};
+ghost use Rattle.route.specs.Values.{namedPlaces, codeBy, codeIn, entryOf, clausesIn};
 ghost use Rattle.route.specs.Inner.{Codable, stores};
 
 // The code of a variable, wanted or not.
@@ -35,9 +35,9 @@ fn code_of(places: &[u8; 2048], literal: Literal) -> u32
     }
 }
 
-// Puts the entries of a rule's literals into the array.
-fn put_literals(p: &[u8], places: &[u8; 2048], clauses: &mut [u32; 2048], rule: RuleId)
-    requires { ⌜ Accepted (now p) × (now places ≡ namedPlaces (now p)) × IsRule (now p) (rule .0) ⌝ }
+// Puts the entries of a rule's literals into the array, which has one for each record.
+fn put_literals(p: &[u8], places: &[u8; 2048], clauses: &mut [u32], rule: RuleId)
+    requires { ⌜ Accepted (now p) × (now places ≡ namedPlaces (now p)) × IsRule (now p) (rule .0) × (records (now p) ≤ length (now clauses)) ⌝ }
     ensures { λ v. ⌜ now (clauses .exit) ≡ stores (entryOf (now (p .entry))) (now (clauses .entry)) (chain (now (p .entry)) (firstLiteral (now (p .entry)) (rule .0))) ⌝ }
 {
     let mut literal = read::first_literal(p, rule);
@@ -49,11 +49,11 @@ fn put_literals(p: &[u8], places: &[u8; 2048], clauses: &mut [u32; 2048], rule: 
     }
 }
 
-// Puts the clauses of an accepted plan into the array, which is all 0 before. `places` are those of its named belts (plan::named::named_places). Each
-// literal is read once.
-pub fn decode(p: &[u8], places: &[u8; 2048], clauses: &mut [u32; 2048])
-    requires { ⌜ Accepted (now p) × (now places ≡ namedPlaces (now p)) × (now clauses ≡ replicate 2048 0) ⌝ }
-    ensures { λ v. ⌜ now (clauses .exit) ≡ clausesOf (now (p .entry)) ⌝ }
+// Puts the clauses of an accepted plan into the array, which is all 0 before and as long as the plan has records, or longer. `places` are those of its
+// named belts (plan::named::named_places). Each literal is read once.
+pub fn decode(p: &[u8], places: &[u8; 2048], clauses: &mut [u32])
+    requires { ⌜ Accepted (now p) × (now places ≡ namedPlaces (now p)) × (now clauses ≡ replicate (length (now clauses)) 0) × (records (now p) ≤ length (now clauses)) ⌝ }
+    ensures { λ v. ⌜ now (clauses .exit) ≡ clausesIn (length (now (clauses .entry))) (now (p .entry)) ⌝ }
 {
     let mut rule = read::first_rule(p);
     clauses[0] = rule.0 as u32;

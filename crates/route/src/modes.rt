@@ -8,7 +8,7 @@ ghost use Rattle.plan.specs.Lists.{run};
 ghost use Rattle.plan.specs.Plan.{planOf};
 ghost use Rattle.plan.specs.Reading.{Accepted};
 ghost use Rattle.route.specs.Permission.{allMet, find, lowest};
-ghost use Rattle.route.specs.Values.{settingIn, OfNamed, hasBelt, clausesOf};
+ghost use Rattle.route.specs.Values.{settingIn, OfNamed, hasBelt, Clauses};
 
 // The lowest setting that works, or that none does.
 pub enum Lowest {
@@ -18,8 +18,8 @@ pub enum Lowest {
 
 // Settles the modes from this one down to 1, the higher ones being as `setting` has them: the lowest setting that works, where the named belts of
 // the mask `belts` are on the route. ModeId(0) says that no mode is left.
-fn settle(p: &[u8], clauses: &[u32; 2048], belts: u64, mode: ModeId, setting: u16) -> Lowest
-    requires { ⌜ Accepted (now p) × (now clauses ≡ clausesOf (now p)) × OfNamed (now p) belts × (mode .0 ≤ 10) × (setting + 2 ^ mode .0 ≤ 1024) ⌝ }
+fn settle(p: &[u8], clauses: &[u32], belts: u64, mode: ModeId, setting: u16) -> Lowest
+    requires { ⌜ Accepted (now p) × Clauses (now p) (now clauses) × OfNamed (now p) belts × (mode .0 ≤ 10) × (setting + 2 ^ mode .0 ≤ 1024) ⌝ }
     ensures { λ v. ⌜ settingIn v ≡ find (allMet (planOf (now (p .entry)) .rules) (hasBelt (now (p .entry)) belts)) (run setting (2 ^ mode .0)) ⌝ }
 {
     if mode.0 == 0 {
@@ -34,8 +34,8 @@ fn settle(p: &[u8], clauses: &[u32; 2048], belts: u64, mode: ModeId, setting: u1
 }
 
 // Tries both positions of a mode, off before on.
-fn try_both(p: &[u8], clauses: &[u32; 2048], belts: u64, mode: ModeId, setting: u16) -> Lowest
-    requires { ⌜ Accepted (now p) × (now clauses ≡ clausesOf (now p)) × OfNamed (now p) belts × (1 ≤ mode .0) × (mode .0 ≤ 10) × (setting + 2 ^ mode .0 ≤ 1024) ⌝ }
+fn try_both(p: &[u8], clauses: &[u32], belts: u64, mode: ModeId, setting: u16) -> Lowest
+    requires { ⌜ Accepted (now p) × Clauses (now p) (now clauses) × OfNamed (now p) belts × (1 ≤ mode .0) × (mode .0 ≤ 10) × (setting + 2 ^ mode .0 ≤ 1024) ⌝ }
     ensures { λ v. ⌜ settingIn v ≡ find (allMet (planOf (now (p .entry)) .rules) (hasBelt (now (p .entry)) belts)) (run setting (2 ^ mode .0)) ⌝ }
 {
     let lower = mode.0 - 1;
@@ -49,8 +49,8 @@ fn try_both(p: &[u8], clauses: &[u32; 2048], belts: u64, mode: ModeId, setting: 
 
 // The lowest setting under which every rule is met, where the named belts of the mask `belts` are on the route (masks::on_route): the rule test of
 // a route. `clauses` are those of the plan (clauses::decode).
-pub fn lowest_setting(p: &[u8], clauses: &[u32; 2048], belts: u64) -> Lowest
-    requires { ⌜ Accepted (now p) × (now clauses ≡ clausesOf (now p)) × OfNamed (now p) belts ⌝ }
+pub fn lowest_setting(p: &[u8], clauses: &[u32], belts: u64) -> Lowest
+    requires { ⌜ Accepted (now p) × Clauses (now p) (now clauses) × OfNamed (now p) belts ⌝ }
     ensures { λ v. ⌜ settingIn v ≡ lowest (planOf (now (p .entry)) .rules) (planOf (now (p .entry)) .modes) (hasBelt (now (p .entry)) belts) ⌝ }
 {
     settle(p, clauses, belts, ModeId(read::modes(p) as u16), 0)

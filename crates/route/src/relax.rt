@@ -401,17 +401,16 @@ fn exits_at(p: &[u8], places: &[u8; 2048], ends: &[u16; 257], arcs: &[u64], u: u
     mask
 }
 
-// The named belts that leave each junction of a plan, as masks. `places`, `ends` and `arcs` are those of the plan, as for `relaxed_route`.
-pub fn exits(p: &[u8], places: &[u8; 2048], ends: &[u16; 257], arcs: &[u64]) -> [u64; 257]
-    requires { ⌜ Accepted (now p) × (now places ≡ namedPlaces (now p)) × (now ends ≡ endsOf (planOf (now p))) × (now arcs ≡ arcsIn (length (now arcs)) (planOf (now p))) ⌝ }
-    ensures { λ v. ⌜ v ≡ exitsOf (now (p .entry)) ⌝ }
+// Puts the named belts that leave each junction of a plan, as masks, into an array that is all 0 before. `places`, `ends` and `arcs` are those of the
+// plan, as for `relaxed_route`.
+pub fn exits(p: &[u8], places: &[u8; 2048], ends: &[u16; 257], arcs: &[u64], exits: &mut [u64; 257])
+    requires { ⌜ Accepted (now p) × (now places ≡ namedPlaces (now p)) × (now ends ≡ endsOf (planOf (now p))) × (now arcs ≡ arcsIn (length (now arcs)) (planOf (now p))) × (now exits ≡ replicate 257 0) ⌝ }
+    ensures { λ _. ⌜ now (exits .exit) ≡ exitsOf (now (p .entry)) ⌝ }
 {
     let last = read::junctions(p);
-    let mut exits = [0u64; 257];
     let mut u = 1;
     while u <= last {
         exits[u] = exits_at(p, places, ends, arcs, u);
         u += 1;
     }
-    exits
 }

@@ -9,7 +9,7 @@ ghost use Prim.Native.Nat.{_<_};
 ghost use Rattle.plan.specs.Plan.{planOf};
 ghost use Rattle.plan.specs.Reading.{Accepted};
 ghost use Rattle.route.specs.Permission.{passes, allMet};
-ghost use Rattle.route.specs.Values.{Known, routeIn, OfNamed, hasBelt, clausesOf};
+ghost use Rattle.route.specs.Values.{Known, routeIn, OfNamed, hasBelt, Clauses};
 ghost use Rattle.route.specs.Inner.{isTrue};
 
 // What mode 1 counts in a mask of variables: 2^48. The modes stand behind the places of 48 belts, in the order in which a setting has them.
@@ -24,8 +24,8 @@ fn is_true(on: u64, code: u32) -> bool
 }
 
 // Whether every rule has a literal that holds, where the named belts of the mask `belts` are on the route; a rule is left as soon as one does.
-pub fn all_met(p: &[u8], clauses: &[u32; 2048], belts: u64, setting: u16) -> bool
-    requires { ⌜ Accepted (now p) × (now clauses ≡ clausesOf (now p)) × OfNamed (now p) belts ⌝ }
+pub fn all_met(p: &[u8], clauses: &[u32], belts: u64, setting: u16) -> bool
+    requires { ⌜ Accepted (now p) × Clauses (now p) (now clauses) × OfNamed (now p) belts ⌝ }
     ensures { λ v. ⌜ v ≡ allMet (planOf (now (p .entry)) .rules) (hasBelt (now (p .entry)) belts) setting ⌝ }
 {
     let on = belts + (setting as u64) * MODE_1;

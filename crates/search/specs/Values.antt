@@ -40,7 +40,7 @@ use Rattle.route.specs.declared.path.Trip.{Trip}
 use Rattle.route.specs.declared.relax.Fixings.{Fixings}
 use Rattle.route.specs.Routes.{wrongEnds, cost, costLimit}
 use Rattle.route.specs.Subproblems.{Subproblem, relaxed}
-use Rattle.route.specs.Values.{idsOf, packed, Known, routeIn, OfNamed, subproblemIn, namedPlaces, numbersOf, exitsOf, atMost, keptOf, clausesOf}
+use Rattle.route.specs.Values.{idsOf, packed, Known, routeIn, OfNamed, subproblemIn, namedPlaces, numbersOf, exitsOf, atMost, keptOf, Clauses}
 use Rattle.search.specs.declared.query.Query.{Query}
 use Rattle.search.specs.declared.pick.Counts.{Counts}
 use Rattle.search.specs.declared.state.Search.{Search}
@@ -110,7 +110,7 @@ pub record Ready (b : List ℕ) (places belts ends arcs exits clauses : List ℕ
   pub ended : ends ≡ endsOf (planOf b)
   pub listed : arcs ≡ arcsIn (length arcs) (planOf b)
   pub left : exits ≡ exitsOf b
-  pub ruled : clauses ≡ clausesOf b
+  pub ruled : Clauses b clauses
   pub counted : counts ≡ countsOf b
   pub junctions : wrongEnds (planOf b) (q .trip .s) (q .trip .t) ≡ false
 

@@ -8,6 +8,7 @@ use crate::state::Search;
 use plan::adjacency;
 use plan::check::Verdict;
 use plan::named;
+use plan::named::Named;
 use route::clauses;
 use route::masks;
 use route::modes;
@@ -20,12 +21,12 @@ ghost use mathlib.Core.Path.{_≡_};
 ghost use mathlib.Core.Bool.{false};
 ghost use Prim.Native.Nat.{_≤_};
 ghost use lib.ListN.{length};
-ghost use Rattle.plan.specs.Plan.{planOf};
+ghost use Rattle.plan.specs.Plan.{planOf, named, listed};
 ghost use Rattle.plan.specs.Adjacency.{arcsIn, endsOf};
 ghost use Rattle.plan.specs.Reading.{Accepted};
 ghost use Rattle.plan.specs.Refusals.{numberOf};
 ghost use Rattle.route.specs.Routes.{wrongEnds};
-ghost use Rattle.route.specs.Values.{settingIn, namedPlaces, clausesOf};
+ghost use Rattle.route.specs.Values.{settingIn, namedPlaces, Clauses};
 ghost use Rattle.search.specs.Answers.{orZero, unlessRefused, outcome, reply, replyOf, Told};
 ghost use Rattle.search.specs.Values.{requestOf, Valid};
 ghost use Rattle.search.specs.Inner.{bestOf};
@@ -93,11 +94,11 @@ fn setting_of(lowest: Lowest) -> u16
 fn write_best(
     p: &[u8],
     places: &[u8; 2048],
-    clauses: &[u32; 2048],
+    clauses: &[u32],
     search: Search,
     out: &mut [u8],
 ) -> Answer
-    requires { ⌜ Accepted (now p) × (now places ≡ namedPlaces (now p)) × (now clauses ≡ clausesOf (now p)) × Valid (now p) search × (3072 ≤ length (now out)) ⌝ }
+    requires { ⌜ Accepted (now p) × (now places ≡ namedPlaces (now p)) × Clauses (now p) (now clauses) × Valid (now p) search × (3072 ≤ length (now out)) ⌝ }
     ensures { λ v. ⌜ Told (replyOf v) (now (out .entry)) (now (out .exit)) (bestOf (now (p .entry)) search) ⌝ }
 {
     let route = search.best;
@@ -110,52 +111,66 @@ fn write_best(
     Answer::Found(search.opened, length)
 }
 
-// The answer of a query that no line refuses. `ends` and `arcs` are the belts of the plan side by side (plan::adjacency::decode).
-fn find_over(p: &[u8], query: Query, ends: &[u16; 257], arcs: &[u64], out: &mut [u8]) -> Answer
-    requires { ⌜ Accepted (now p) × (wrongEnds (planOf (now p)) (query .trip .s) (query .trip .t) ≡ false) × (3072 ≤ length (now out)) × (now ends ≡ endsOf (planOf (now p))) × (now arcs ≡ arcsIn (length (now arcs)) (planOf (now p))) ⌝ }
+// The answer of a query that no line refuses. What is lent is made of the plan: the list and the places of its named belts (plan::named), its belts side
+// by side (plan::adjacency::decode) and its rules (route::clauses::decode).
+fn find_over(
+    p: &[u8],
+    query: Query,
+    list: Named,
+    places: &[u8; 2048],
+    ends: &[u16; 257],
+    arcs: &[u64],
+    clauses: &[u32],
+    out: &mut [u8],
+) -> Answer
+    requires { ⌜ Accepted (now p) × (wrongEnds (planOf (now p)) (query .trip .s) (query .trip .t) ≡ false) × (3072 ≤ length (now out)) × (list .count ≡ length (named (planOf (now p)))) × (list .belts ≡ listed (named (planOf (now p)))) × (now places ≡ namedPlaces (now p)) × (now ends ≡ endsOf (planOf (now p))) × (now arcs ≡ arcsIn (length (now arcs)) (planOf (now p))) × Clauses (now p) (now clauses) ⌝ }
     ensures { λ v. ⌜ Told (replyOf v) (now (out .entry)) (now (out .exit)) (unlessRefused 0 (requestOf (now (p .entry)) query (now (out .entry)))) ⌝ }
 {
-    let list = named::named_belts(p);
-    let places = named::places_among(p, list);
     let belts = relax::numbers(p, list);
-    let exits = relax::exits(p, &places, ends, arcs);
-    let mut clauses = [0u32; 2048];
-    clauses::decode(p, &places, &mut clauses);
-    let counts = pick::rule_counts(p, &places, list.count);
+    let mut exits = [0u64; 257];
+    relax::exits(p, places, ends, arcs, &mut exits);
+    let counts = pick::rule_counts(p, places, list.count);
     let stepped = run::run(
         p,
-        &places,
+        places,
         &belts,
         ends,
         arcs,
         &exits,
-        &clauses,
+        clauses,
         counts,
         query,
     );
     let search = stepped.search;
     let ending = stepped.ending;
     match ending {
-        Ending::Found => write_best(p, &places, &clauses, search, out),
+        Ending::Found => write_best(p, places, clauses, search, out),
         Ending::Nothing => Answer::Nothing(search.opened),
         Ending::Spent => Answer::Spent(search.opened),
         Ending::GoesOn => Answer::Spent(search.opened),
     }
 }
 
-// The same, with the belts decoded. An array is cleared whole for each query, so a plan of up to 256 records, as most are, has a smaller one.
+// The same, with what is made of the plan. An array is cleared whole for each query, so a plan of up to 256 records, as most are, has smaller ones.
 fn find_route(p: &[u8], query: Query, out: &mut [u8]) -> Answer
     requires { ⌜ Accepted (now p) × (wrongEnds (planOf (now p)) (query .trip .s) (query .trip .t) ≡ false) × (3072 ≤ length (now out)) ⌝ }
     ensures { λ v. ⌜ Told (replyOf v) (now (out .entry)) (now (out .exit)) (unlessRefused 0 (requestOf (now (p .entry)) query (now (out .entry)))) ⌝ }
 {
+    let list = named::named_belts(p);
+    let mut places = [0u8; 2048];
+    named::places_among(p, list, &mut places);
     if p.len() <= 3072 {
         let mut arcs = [0u64; 256];
         let ends = adjacency::decode(p, &mut arcs);
-        return find_over(p, query, &ends, &arcs, out);
+        let mut clauses = [0u32; 256];
+        clauses::decode(p, &places, &mut clauses);
+        return find_over(p, query, list, &places, &ends, &arcs, &clauses, out);
     }
     let mut arcs = [0u64; 2048];
     let ends = adjacency::decode(p, &mut arcs);
-    find_over(p, query, &ends, &arcs, out)
+    let mut clauses = [0u32; 2048];
+    clauses::decode(p, &places, &mut clauses);
+    find_over(p, query, list, &places, &ends, &arcs, &clauses, out)
 }
 
 // Answers a query. On a route its sheet is written to the start of the out buffer; else no byte of it changes.

@@ -19,7 +19,7 @@ pub fn run(
     ends: &[u16; 257],
     arcs: &[u64],
     exits: &[u64; 257],
-    clauses: &[u32; 2048],
+    clauses: &[u32],
     counts: Counts,
     query: Query,
 ) -> Stepped

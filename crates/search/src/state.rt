@@ -18,7 +18,7 @@ ghost use lib.ListN.{length, replicate};
 ghost use Rattle.plan.specs.declared.named.Place.the-variants.{At};
 ghost use Rattle.plan.specs.Reading.{Accepted};
 ghost use Rattle.route.specs.declared.path.Route.{Route};
-ghost use Rattle.route.specs.Values.{OfNamed, clausesOf};
+ghost use Rattle.route.specs.Values.{OfNamed, Clauses};
 ghost use Rattle.search.specs.Values.{countsOf, turnIn, Valid, boundIn, firstSearch, noFixings, Ready, stepIn, keptIn};
 ghost use Rattle.search.specs.Inner.{OnRoute, endedAs, childAt, judgedIn};
 
@@ -106,14 +106,14 @@ fn ended(count: usize, found: bool) -> Ending
 // improves on the best.
 fn judge(
     p: &[u8],
-    clauses: &[u32; 2048],
+    clauses: &[u32],
     counts: Counts,
     query: Query,
     fixings: Fixings,
     mask: u64,
     better: bool,
 ) -> Judged
-    requires { ⌜ Accepted (now p) × (now clauses ≡ clausesOf (now p)) × (counts ≡ countsOf (now p)) × (better ≡ true → OfNamed (now p) mask) ⌝ }
+    requires { ⌜ Accepted (now p) × Clauses (now p) (now clauses) × (counts ≡ countsOf (now p)) × (better ≡ true → OfNamed (now p) mask) ⌝ }
     ensures { λ v. ⌜ ((route : Route) → (better ≡ true → OnRoute (now (p .entry)) mask route) → v ≡ judgedIn (now (p .entry)) query fixings route better) ⌝ }
 {
     if !better {
@@ -164,7 +164,7 @@ impl Search {
         ends: &[u16; 257],
         arcs: &[u64],
         exits: &[u64; 257],
-        clauses: &[u32; 2048],
+        clauses: &[u32],
         counts: Counts,
         query: Query,
         mut bound: u64,

@@ -17,10 +17,10 @@ use Rattle.plan.proofs.named.places_among.Statement.{statement}
 use Rattle.plan.proofs.named.places_among.Tie as tie
 
 abbrev Inv-loop : tie.InvT-loop
-Inv-loop p list places₀ k₀ places k = numbered places k (drop k (named (planOf p))) ≡ placesOf (named (planOf p))
+Inv-loop p places₀ list k₀ places k = numbered places k (drop k (named (planOf p))) ≡ placesOf (named (planOf p))
 
 abbrev μ-loop : tie.MeasureT-loop
-μ-loop p list places₀ k₀ places k = list .count - k
+μ-loop p places₀ list k₀ places k = list .count - k
 
 in-list : (l : List ℕ) (k : ℕ) → k < length l → List·Memᴰ (getD l k 0) l
 in-list [] k h = absurd (omega arith)
@@ -28,7 +28,9 @@ in-list (x ∷ l) zero h = List·Memᴰ·head refl
 in-list (x ∷ l) (suc k) h = List·Memᴰ·tail (in-list l k (omega arith))
 
 loop-holds : tie.Need-loop-holds Inv-loop μ-loop
-loop-holds c = let p = c .args .p .now in numbered-places (named (planOf p)) (named-rises p)
+loop-holds c =
+    let p = c .args .p .now in
+    ap (λ (l : List ℕ). numbered l 0 (named (planOf p))) (c .pre .3) ∙ numbered-places (named (planOf p)) (named-rises p)
 
 -- a turn: the belt that is next is named, and there are at most 48
 below : (c : tie.In-loop Inv-loop μ-loop) → let start = c .before .before in (c .before .loop .k < 48) × (c .before .loop .k < length (named (planOf (start .args .p .now))))
@@ -67,8 +69,8 @@ cast-places c = omega (arith, below (c .before) .0)
 cast-places-2 : tie.Need-cast-places-2 Inv-loop μ-loop
 cast-places-2 c = omega (arith, low (c .before .before))
 
-array-write-places : tie.Need-array-write-places Inv-loop μ-loop
-array-write-places c = low (c .before .before)
+element-write-places : tie.Need-element-write-places Inv-loop μ-loop
+element-write-places c = low (c .before .before)
 
 loop-less : tie.Need-loop-less Inv-loop μ-loop
 loop-less c = omega (arith, c .before .before .loop-test .taken)
@@ -102,7 +104,7 @@ places-among-spec =
     add-k
     cast-places
     cast-places-2
-    array-write-places
+    element-write-places
     loop-less
     loop-again
     returns)

@@ -28,9 +28,9 @@ slice-aggregate-exits c = search needs
 
 exits-requires : tie.Need-exits-requires
 exits-requires c κs =
-    let decoded = c .before .before .before in
+    let decoded = c .before .before .before .before in
     let start = decoded .before .before .before in
-    (start .pre .0, start .pre .1, decoded .decode .ensures .0, arcs decoded)
+    (start .pre .0, start .pre .1, decoded .decode .ensures .0, arcs decoded, refl)
 
 named-belts-requires : tie.Need-named-belts-requires
 named-belts-requires c κs = search needs
@@ -44,13 +44,13 @@ slice-aggregate-relaxed-route c = search needs
 relaxed-route-requires : tie.Need-relaxed-route-requires
 relaxed-route-requires c κs =
     let left = c .before .before .before .before .before .before .before .before in
-    let decoded = left .before .before .before .before in
+    let decoded = left .before .before .before .before .before in
     let start = decoded .before .before .before in
-    (start .pre .0, start .pre .1, decoded .decode .ensures .0, arcs decoded, left .exits .ensures, start .pre .2, start .pre .3, omega arith, refl, c .before .before .before .before .before .before .numbers .ensures)
+    (start .pre .0, start .pre .1, decoded .decode .ensures .0, arcs decoded, left .exits2 .ensures, start .pre .2, start .pre .3, omega arith, refl, c .before .before .before .before .before .before .numbers .ensures)
 
 print-relaxed-requires : tie.Need-print-relaxed-requires
 print-relaxed-requires c κs =
-    let a = c .before .before .before .before .before .before .before .before .before .before .before .before .before .before .before .before .before .args in
+    let a = c .before .before .before .before .before .before .before .before .before .before .before .before .before .before .before .before .before .before .args in
     let b = a .p .now in
     let way = atMost 281474976710655 (relaxed (planOf b) (a .trip .s) (a .trip .t) (subproblemIn b (a .fixings))) in
     ap length (c .before .relaxed-route .ensures .2) ∙ kept-size way (replicate 255 0)

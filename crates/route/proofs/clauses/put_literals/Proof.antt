@@ -11,7 +11,7 @@ use Rattle.route.specs.Values.{codeIn, entryOf}
 use Rattle.route.specs.Inner.{Codable, stores}
 use Rattle.route.proofs.Codes.{codable-low, literal-codable}
 use Rattle.route.proofs.Ahead.{literal-shorter}
-use Rattle.route.proofs.Entries.{LiteralsStored, literals-start, literals-stored, literals-end, literal-low, next-literal-low}
+use Rattle.route.proofs.Entries.{LiteralsStored, literals-start, literals-stored, literals-size, literals-end, literal-low, next-literal-low}
 use Rattle.route.proofs.clauses.put_literals.Statement.{statement}
 use Rattle.route.proofs.clauses.put_literals.Tie as tie
 
@@ -22,27 +22,27 @@ abbrev μ-loop : tie.MeasureT-loop
 μ-loop p places clauses₀ literal₀ clauses literal = length (literalsFrom p (literal .0))
 
 first-literal-requires : tie.Need-first-literal-requires Inv-loop μ-loop
-first-literal-requires c κs = (c .before .pre .0, c .before .pre .2)
+first-literal-requires c κs = (c .before .before .pre .0, c .before .before .pre .2)
 
 loop-holds : tie.Need-loop-holds Inv-loop μ-loop
 loop-holds c =
-    let start = c .before .before in
+    let start = c .before .before .before in
     literals-start (start .pre .0) (start .args .clauses .now) (start .args .rule .0) (start .pre .2) _ (c .first-literal .ensures)
 
 -- the literal of this turn
-literal-is : (c : tie.Then1 Inv-loop μ-loop) → IsLiteral (c .before .before .before .before .before .args .p .now) (c .before .before .loop .literal .0)
+literal-is : (c : tie.Then1 Inv-loop μ-loop) → IsLiteral (c .before .before .before .before .before .before .args .p .now) (c .before .before .loop .literal .0)
 literal-is c = c .before .before .loop .inv .is-literal (c .if1 .taken)
 
 literal-of-requires : tie.Need-literal-of-requires Inv-loop μ-loop
-literal-of-requires c κs = (c .before .before .before .before .before .pre .0, literal-is c)
+literal-of-requires c κs = (c .before .before .before .before .before .before .pre .0, literal-is c)
 
 -- it has a code
 codable : (c : tie.After-literal-of Inv-loop μ-loop)
-    → Codable (c .before .before .before .before .before .before .args .places .now) (c .literal-of .result)
+    → Codable (c .before .before .before .before .before .before .before .args .places .now) (c .literal-of .result)
 codable c =
     let turn = c .before in
     let at = turn .before .before in
-    let start = at .before .before .before in
+    let start = at .before .before .before .before in
     let l = at .loop .literal .0 in
     subst (Codable (start .args .places .now)) (sym (c .literal-of .ensures))
     (subst (λ (ps : List ℕ). Codable ps (literalAt (start .args .p .now) l)) (sym (start .pre .1)) (literal-codable (start .pre .0) l (literal-is turn)))
@@ -54,20 +54,20 @@ code-of-requires c κs = codable c
 code-low : (c : tie.After-code-of Inv-loop μ-loop) → c .code-of .result < 128
 code-low c =
     let said = c .before in
-    let start = said .before .before .before .before .before .before in
+    let start = said .before .before .before .before .before .before .before in
     omega (arith, c .code-of .ensures, codable-low (start .args .places .now) (said .literal-of .result) (codable said))
 
 next-literal-requires : tie.Need-next-literal-requires Inv-loop μ-loop
 next-literal-requires c κs =
     let turn = c .before .before in
-    (turn .before .before .before .before .before .pre .0, literal-is turn)
+    (turn .before .before .before .before .before .before .pre .0, literal-is turn)
 
 -- and so is the next literal
 next-low : (c : tie.After-next-literal Inv-loop μ-loop) → c .next-literal .result .0 < 2048
 next-low c =
     let turn = c .before .before .before in
     let at = turn .before .before in
-    omega (arith, c .next-literal .ensures, next-literal-low (at .before .before .before .pre .0) (at .loop .literal .0) (literal-is turn))
+    omega (arith, c .next-literal .ensures, next-literal-low (at .before .before .before .before .pre .0) (at .loop .literal .0) (literal-is turn))
 
 cast-clauses : tie.Need-cast-clauses Inv-loop μ-loop
 cast-clauses c = omega (arith, next-low (c .before))
@@ -78,9 +78,9 @@ mul-clauses c = omega (arith, code-low (c .before .before))
 add-clauses : tie.Need-add-clauses Inv-loop μ-loop
 add-clauses c = omega (arith, next-low (c .before), code-low (c .before .before))
 
--- the place of its entry is in the array
+-- the place of its entry is low, and in the array
 place-low : (c : tie.Then1 Inv-loop μ-loop) → c .before .before .loop .literal .0 < 2048
-place-low c = literal-low (c .before .before .before .before .before .pre .0) (c .before .before .loop .literal .0) (literal-is c)
+place-low c = literal-low (c .before .before .before .before .before .before .pre .0) (c .before .before .loop .literal .0) (literal-is c)
 
 cast-clauses-2 : tie.Need-cast-clauses-2 Inv-loop μ-loop
 cast-clauses-2 c = omega (arith, place-low (c .before .before .before .before .before))
@@ -88,15 +88,19 @@ cast-clauses-2 c = omega (arith, place-low (c .before .before .before .before .b
 mul-clauses-2 : tie.Need-mul-clauses-2 Inv-loop μ-loop
 mul-clauses-2 c = omega (arith, place-low (c .before .before .before .before .before))
 
-element-write-clauses : tie.Need-element-write-clauses Inv-loop μ-loop
-element-write-clauses c = place-low (c .before .before .before .before .before)
+slice-write-clauses : tie.Need-slice-write-clauses Inv-loop μ-loop
+slice-write-clauses c =
+    let turn = c .before .before .before .before .before in
+    let at = turn .before .before in
+    let start = at .before .before .before .before in
+    omega (arith, literal-is turn .0, start .pre .3, literals-size (start .pre .0) (at .loop .inv))
 
 loop-less : tie.Need-loop-less Inv-loop μ-loop
 loop-less c =
     let next = c .before .before in
     let turn = next .before .before .before in
     let at = turn .before .before in
-    literal-shorter (at .before .before .before .pre .0) (at .loop .literal .0) (literal-is turn) _ (next .next-literal .ensures)
+    literal-shorter (at .before .before .before .before .pre .0) (at .loop .literal .0) (literal-is turn) _ (next .next-literal .ensures)
 
 loop-again : tie.Need-loop-again Inv-loop μ-loop
 loop-again c =
@@ -104,14 +108,17 @@ loop-again c =
     let coded = next .before in
     let turn = coded .before .before in
     let at = turn .before .before in
-    let start = at .before .before .before in
+    let start = at .before .before .before .before in
     let code = coded .code-of .ensures ∙ ap (codeIn (start .args .places .now)) (coded .before .literal-of .ensures) in
     literals-stored (start .pre .0) (at .loop .inv) (turn .if1 .taken) _ (next .next-literal .ensures) (start .pre .1) (coded .code-of .result) code
+
+same-length : tie.Need-same-length Inv-loop μ-loop
+same-length c = let at = c .before .before in literals-size (at .before .before .before .before .pre .0) (at .loop .inv)
 
 returns : tie.Need-returns Inv-loop μ-loop
 returns c =
     let at = c .before .before in
-    let start = at .before .before .before in
+    let start = at .before .before .before .before in
     let p = start .args .p .now in
     literals-end (start .pre .0) (at .loop .inv) (c .if1 .left)
     ∙ ap (λ (l : ℕ). stores (entryOf p) (start .args .clauses .now) (chain p l)) (at .before .first-literal .ensures)
@@ -132,7 +139,8 @@ put-literals-spec =
     add-clauses
     cast-clauses-2
     mul-clauses-2
-    element-write-clauses
+    slice-write-clauses
     loop-less
     loop-again
+    same-length
     returns)

@@ -52,7 +52,7 @@ settle-all-met-requires : (t : ℕ) → settle-lts.Need-all-met-requires (
   try-both-below t,
   try-both.Post,
 ) (settle-at t) settle.Post
-settle-all-met-requires t c κs = let h = c .before .before .before .pre .1 in (h .0, h .1, h .2)
+settle-all-met-requires t c κs = let h = c .before .before .before .before .pre .1 in (h .0, h .1, h .2)
 
 settle-try-both-requires : (t : ℕ) → settle-lts.Need-try-both-requires (
   all-met-reads.Asked,
@@ -61,7 +61,7 @@ settle-try-both-requires : (t : ℕ) → settle-lts.Need-try-both-requires (
   try-both.Post,
 ) (settle-at t) settle.Post
 settle-try-both-requires t c κs =
-    let h = c .before .before .before .pre .1 in
+    let h = c .before .before .before .before .pre .1 in
     (omega arith, (h .0, h .1, h .2, omega arith, h .3, h .4))
 
 settle-returns : (t : ℕ) → settle-lts.Need-returns (
@@ -71,7 +71,7 @@ settle-returns : (t : ℕ) → settle-lts.Need-returns (
   try-both.Post,
 ) (settle-at t) settle.Post
 settle-returns t c =
-    let start = c .before .before .before .before .before in
+    let start = c .before .before .before .before .before .before in
     let a = start .args in
     let tested = sym (c .before .all-met .ensures) ∙ c .if2 .taken in
     sym (settle-none (works (a .p .now) (a .belts)) (a .mode .0) (a .setting) (c .before .before .if1 .taken) true tested)
@@ -83,7 +83,7 @@ settle-returns-2 : (t : ℕ) → settle-lts.Need-returns-2 (
   try-both.Post,
 ) (settle-at t) settle.Post
 settle-returns-2 t c =
-    let start = c .before .before .before .before .before in
+    let start = c .before .before .before .before .before .before in
     let a = start .args in
     let tested = sym (c .before .all-met .ensures) ∙ c .if2 .left in
     sym (settle-none (works (a .p .now) (a .belts)) (a .mode .0) (a .setting) (c .before .before .if1 .taken) false tested)
@@ -99,18 +99,18 @@ settle-returns-3 t c = c .try-both .ensures
 try-both-sub-lower :
     (t : ℕ) →
     try-both-lts.Need-sub-lower (settle-below t, settle.Post) (try-both-at t) try-both.Post
-try-both-sub-lower t c = let start = c .before .before in omega (arith, start .pre .1 .3)
+try-both-sub-lower t c = let start = c .before .before .before in omega (arith, start .pre .1 .3)
 
 try-both-shl-with-mode :
     (t : ℕ) →
     try-both-lts.Need-shl-with-mode (settle-below t, settle.Post) (try-both-at t) try-both.Post
-try-both-shl-with-mode t c = let start = c .before .before in omega (arith, start .pre .1 .4)
+try-both-shl-with-mode t c = let start = c .before .before .before in omega (arith, start .pre .1 .4)
 
 try-both-add-with-mode :
     (t : ℕ) →
     try-both-lts.Need-add-with-mode (settle-below t, settle.Post) (try-both-at t) try-both.Post
 try-both-add-with-mode t c =
-    let start = c .before .before in
+    let start = c .before .before .before in
     let m = start .args .mode .0 in
     let h = start .pre .1 in
     omega (arith, h .5, halves m (h .3), weight m (h .4))
@@ -120,7 +120,7 @@ try-both-settle-requires : (t : ℕ) → try-both-lts.Need-settle-requires (
   settle.Post,
 ) (try-both-at t) try-both.Post
 try-both-settle-requires t c κs =
-    let start = c .before .before in
+    let start = c .before .before .before in
     let m = start .args .mode .0 in
     let h = start .pre .1 in
     (omega (arith, h .3), (h .0, h .1, h .2, omega (arith, h .4), omega (arith, h .5, halves m (h .3))))
@@ -140,7 +140,7 @@ try-both-settle-requires-2 : (t : ℕ) → try-both-lts.Need-settle-requires-2 (
   settle.Post,
 ) (try-both-at t) try-both.Post
 try-both-settle-requires-2 t c κs =
-    let start = c .before .before .before .before .before in
+    let start = c .before .before .before .before .before .before in
     let m = start .args .mode .0 in
     let h = start .pre .1 in
     (omega (arith, h .3), (h .0, h .1, h .2, omega (arith, h .4), omega (arith, h .5, halves m (h .3), weight m (h .4))))
@@ -149,7 +149,7 @@ try-both-returns :
     (t : ℕ) →
     try-both-lts.Need-returns (settle-below t, settle.Post) (try-both-at t) try-both.Post
 try-both-returns t c =
-    let start = c .before .before .before .before .before .before in
+    let start = c .before .before .before .before .before .before .before in
     let a = start .args in
     let m = a .mode .0 in
     let f = works (a .p .now) (a .belts) in
@@ -161,7 +161,7 @@ try-both-returns-2 :
     (t : ℕ) →
     try-both-lts.Need-returns-2 (settle-below t, settle.Post) (try-both-at t) try-both.Post
 try-both-returns-2 t c =
-    let start = c .before .before .before .before .before .before in
+    let start = c .before .before .before .before .before .before .before in
     let a = start .args in
     let m = a .mode .0 in
     let f = works (a .p .now) (a .belts) in

@@ -16,12 +16,12 @@ modes-requires c κs = search needs
 
 cast-t5 : tie.Need-cast-t5
 cast-t5 c =
-    let start = c .before .before in
+    let start = c .before .before .before in
     omega (arith, c .modes .ensures, plan-sizes (start .pre .0) .2)
 
 settle-requires : tie.Need-settle-requires
 settle-requires c κs =
-    let pre = c .before .before .pre in
+    let pre = c .before .before .before .pre in
     let few = plan-sizes (pre .0) .2 in
     let most : c .modes .result ≤ 10 = omega (arith, c .modes .ensures, few) in
     (pre .0, pre .1, pre .2, most, omega (arith, all-modes (c .modes .result) most))
@@ -29,7 +29,7 @@ settle-requires c κs =
 returns : tie.Need-returns
 returns c =
     let counted = c .before in
-    let start = counted .before .before in
+    let start = counted .before .before .before in
     let p = start .args .p .now in
     let on = hasBelt p (start .args .belts) in
     let found : settingIn (c .settle .result) ≡ lowest (planOf p .rules) (counted .modes .result) on = c .settle .ensures in

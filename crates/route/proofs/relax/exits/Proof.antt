@@ -1,4 +1,5 @@
 -- `route::relax::exits` meets its contract: the masks of the junctions below u are there (Filled). Assumes nothing.
+use mathlib.Core.Path.{sym, subst}
 use Prim.Native.Nat.{_+_, _-_, _≤_, _<_}
 use native.Mathlib.Omega.{arith}
 use Rattle.plan.proofs.Reading.{plan-sizes}
@@ -7,16 +8,18 @@ use Rattle.route.proofs.relax.exits.Statement.{statement}
 use Rattle.route.proofs.relax.exits.Tie as tie
 
 abbrev Inv-loop : tie.InvT-loop
-Inv-loop p places ends arcs last exits₀ u₀ exits u = (1 ≤ u) × Filled p u exits
+Inv-loop p places ends arcs exits₀ last u₀ exits u = (1 ≤ u) × Filled p u exits
 
 abbrev μ-loop : tie.MeasureT-loop
-μ-loop p places ends arcs last exits₀ u₀ exits u = last + 1 - u
+μ-loop p places ends arcs exits₀ last u₀ exits u = last + 1 - u
 
 junctions-requires : tie.Need-junctions-requires Inv-loop μ-loop
 junctions-requires c κs = c .before .before .pre .0
 
 loop-holds : tie.Need-loop-holds Inv-loop μ-loop
-loop-holds c = (omega arith, filled-start (c .before .before .before .pre .0))
+loop-holds c =
+    let start = c .before .before .before in
+    (omega arith, subst (Filled (start .args .p .now) 1) (sym (start .pre .4)) (filled-start (start .pre .0)))
 
 -- the junction of a turn is one of at most 256
 below : (c : tie.In-loop Inv-loop μ-loop) → c .before .loop .u < 257
@@ -36,8 +39,8 @@ exits-at-requires c κs =
 mul-exits : tie.Need-mul-exits Inv-loop μ-loop
 mul-exits c = omega (arith, below (c .before))
 
-array-write-exits : tie.Need-array-write-exits Inv-loop μ-loop
-array-write-exits c = below (c .before)
+element-write-exits : tie.Need-element-write-exits Inv-loop μ-loop
+element-write-exits c = below (c .before)
 
 add-u : tie.Need-add-u Inv-loop μ-loop
 add-u c = omega (arith, below (c .before))
@@ -65,7 +68,7 @@ exits-spec =
     loop-holds
     exits-at-requires
     mul-exits
-    array-write-exits
+    element-write-exits
     add-u
     loop-less
     loop-again

@@ -11,7 +11,7 @@ use Rattle.route.specs.Values.{namedPlaces, hasBelt, codeIn}
 use Rattle.route.specs.Inner.{isTrue}
 use Rattle.route.proofs.Codes.{assigned, assigned-fits, codable-low, literal-codable, literal-true}
 use Rattle.route.proofs.Ahead as ahead
-use Rattle.route.proofs.Entries.{rule-low, literal-low, first-entry, rule-parts, literal-parts}
+use Rattle.route.proofs.Entries.{rule-low, literal-low, some-records, first-entry, rule-parts, literal-parts}
 use Rattle.route.proofs.rules.all_met.Statement.{statement}
 use Rattle.route.proofs.rules.all_met.Tie as tie
 
@@ -32,82 +32,86 @@ mul-on c = omega arith
 
 add-on : tie.Need-add-on Inv-loop μ-loop Inv-rules μ-rules
 add-on c =
-    let start = c .before in
+    let start = c .before .before in
     omega (arith, assigned-fits (start .pre .0) (start .pre .2) (start .args .setting) (omega arith))
 
-element-copy-out-next : tie.Need-element-copy-out-next Inv-loop μ-loop Inv-rules μ-rules
-element-copy-out-next c = omega arith
+shared-slice-read-next : tie.Need-shared-slice-read-next Inv-loop μ-loop Inv-rules μ-rules
+shared-slice-read-next c = let start = c .before .before .before in omega (arith, some-records (start .pre .0), start .pre .1 .room)
 
 rules-holds : tie.Need-rules-holds Inv-loop μ-loop Inv-rules μ-rules
 rules-holds c =
-    let start = c .before .before in
+    let start = c .before .before .before in
     let on = hasBelt (start .args .p .now) (start .args .belts) in
     ahead.rules-first (start .pre .0) on (start .args .setting) _ (first-entry (start .pre .0) (start .pre .1))
 
 -- the rule of a turn
-rule-is : (c : tie.In-rules Inv-loop μ-loop Inv-rules μ-rules) → IsRule (c .before .before .before .before .args .p .now) (c .before .rules .next)
+rule-is : (c : tie.In-rules Inv-loop μ-loop Inv-rules μ-rules) → IsRule (c .before .before .before .before .before .args .p .now) (c .before .rules .next)
 rule-is c = c .before .rules .inv .0 (c .rules-test .taken)
 
-in-array : (c : tie.In-rules Inv-loop μ-loop Inv-rules μ-rules) → c .before .rules .next < 2048
-in-array c = rule-low (c .before .before .before .before .pre .0) (c .before .rules .next) (rule-is c)
+rule-small : (c : tie.In-rules Inv-loop μ-loop Inv-rules μ-rules) → c .before .rules .next < 2048
+rule-small c = rule-low (c .before .before .before .before .before .pre .0) (c .before .rules .next) (rule-is c)
 
 cast-rule : tie.Need-cast-rule Inv-loop μ-loop Inv-rules μ-rules
-cast-rule c = omega (arith, in-array c)
+cast-rule c = omega (arith, rule-small c)
 
 mul-rule : tie.Need-mul-rule Inv-loop μ-loop Inv-rules μ-rules
-mul-rule c = omega (arith, in-array c)
+mul-rule c = omega (arith, rule-small c)
 
-element-copy-out-rule : tie.Need-element-copy-out-rule Inv-loop μ-loop Inv-rules μ-rules
-element-copy-out-rule c = in-array c
+shared-slice-read-rule : tie.Need-shared-slice-read-rule Inv-loop μ-loop Inv-rules μ-rules
+shared-slice-read-rule c =
+    let turn = c .before in
+    omega (arith, rule-is turn .0, turn .before .before .before .before .before .pre .1 .room)
 
 -- the two parts of its entry
 parts : (c : tie.In-rules Inv-loop μ-loop Inv-rules μ-rules) →
-    let a = c .before .before .before .before .args in
+    let a = c .before .before .before .before .before .args in
     let r = c .before .rules .next in
     (getD (a .clauses .now) r 0 % 65536 ≡ nextRule (a .p .now) r) × (getD (a .clauses .now) r 0 / 65536 ≡ firstLiteral (a .p .now) r)
 parts c =
-    let start = c .before .before .before .before in
+    let start = c .before .before .before .before .before in
     rule-parts (start .pre .0) (start .pre .1) (c .before .rules .next) (rule-is c)
 
 loop-holds : tie.Need-loop-holds Inv-loop μ-loop Inv-rules μ-rules
 loop-holds c =
     let turn = c .before in
     let at = turn .before in
-    let start = at .before .before .before in
+    let start = at .before .before .before .before in
     let on = hasBelt (start .args .p .now) (start .args .belts) in
     ahead.literals-first (start .pre .0) on (start .args .setting) (at .rules .next) (at .rules .inv) (turn .rules-test .taken) _ (parts turn .1)
 
 -- the literal of a turn
 literal-is : (c : tie.In-loop Inv-loop μ-loop Inv-rules μ-rules)
-    → IsLiteral (c .before .before .before .before .before .before .before .args .p .now) (c .before .loop .literal)
+    → IsLiteral (c .before .before .before .before .before .before .before .before .args .p .now) (c .before .loop .literal)
 literal-is c = c .before .loop .inv .0 (c .loop-test .taken)
 
-found : (c : tie.In-loop Inv-loop μ-loop Inv-rules μ-rules) → c .before .loop .literal < 2048
-found c = literal-low (c .before .before .before .before .before .before .before .pre .0) (c .before .loop .literal) (literal-is c)
+literal-small : (c : tie.In-loop Inv-loop μ-loop Inv-rules μ-rules) → c .before .loop .literal < 2048
+literal-small c = literal-low (c .before .before .before .before .before .before .before .before .pre .0) (c .before .loop .literal) (literal-is c)
 
 cast-entry : tie.Need-cast-entry Inv-loop μ-loop Inv-rules μ-rules
-cast-entry c = omega (arith, found c)
+cast-entry c = omega (arith, literal-small c)
 
 mul-entry : tie.Need-mul-entry Inv-loop μ-loop Inv-rules μ-rules
-mul-entry c = omega (arith, found c)
+mul-entry c = omega (arith, literal-small c)
 
-element-copy-out-entry : tie.Need-element-copy-out-entry Inv-loop μ-loop Inv-rules μ-rules
-element-copy-out-entry c = found c
+shared-slice-read-entry : tie.Need-shared-slice-read-entry Inv-loop μ-loop Inv-rules μ-rules
+shared-slice-read-entry c =
+    let round = c .before in
+    omega (arith, literal-is round .0, round .before .before .before .before .before .before .before .before .pre .1 .room)
 
 -- the two parts of its entry
 halves : (c : tie.In-loop Inv-loop μ-loop Inv-rules μ-rules) →
-    let a = c .before .before .before .before .before .before .before .args in
+    let a = c .before .before .before .before .before .before .before .before .args in
     let l = c .before .loop .literal in
     (getD (a .clauses .now) l 0 % 65536 ≡ nextLiteral (a .p .now) l)
     × (getD (a .clauses .now) l 0 / 65536 ≡ codeIn (namedPlaces (a .p .now)) (literalAt (a .p .now) l))
 halves c =
-    let start = c .before .before .before .before .before .before .before in
+    let start = c .before .before .before .before .before .before .before .before in
     literal-parts (start .pre .0) (start .pre .1) (c .before .loop .literal) (literal-is c)
 
 is-true-requires : tie.Need-is-true-requires Inv-loop μ-loop Inv-rules μ-rules
 is-true-requires c κs =
     let round = c .before in
-    let start = round .before .before .before .before .before .before .before in
+    let start = round .before .before .before .before .before .before .before .before in
     let p = start .args .p .now in
     let l = round .before .loop .literal in
     omega (arith, halves round .1, codable-low (namedPlaces p) (literalAt p l) (literal-codable (start .pre .0) l (literal-is round)))
@@ -115,11 +119,11 @@ is-true-requires c κs =
 -- whether it holds is what its code says
 said : (c : tie.After-is-true Inv-loop μ-loop Inv-rules μ-rules) →
     let at = c .before .before .before in
-    let a = at .before .before .before .before .before .before .args in
+    let a = at .before .before .before .before .before .before .before .args in
     holds (hasBelt (a .p .now) (a .belts)) (a .setting) (literalAt (a .p .now) (at .loop .literal)) ≡ c .is-true .result
 said c =
     let round = c .before .before in
-    let start = round .before .before .before .before .before .before .before in
+    let start = round .before .before .before .before .before .before .before .before in
     let a = start .args in
     sym (literal-true (start .pre .0) (start .pre .2) (a .setting) (round .before .loop .literal) (literal-is round))
     ∙ ap (isTrue (assigned (a .belts) (a .setting))) (sym (halves round .1))
@@ -129,7 +133,7 @@ rules-less : tie.Need-rules-less Inv-loop μ-loop Inv-rules μ-rules
 rules-less c =
     let turn = c .before .before .before .before .before .before in
     let at = turn .before in
-    ahead.rule-shorter (at .before .before .before .pre .0) (at .rules .next) (rule-is turn) _ (parts turn .0)
+    ahead.rule-shorter (at .before .before .before .before .pre .0) (at .rules .next) (rule-is turn) _ (parts turn .0)
 
 rules-again : tie.Need-rules-again Inv-loop μ-loop Inv-rules μ-rules
 rules-again c =
@@ -137,7 +141,7 @@ rules-again c =
     let inner = round .before in
     let turn = inner .before .before in
     let at = turn .before in
-    let start = at .before .before .before in
+    let start = at .before .before .before .before in
     let p = start .args .p .now in
     let on = hasBelt p (start .args .belts) in
     let σ = start .args .setting in
@@ -148,14 +152,14 @@ rules-again c =
 loop-less : tie.Need-loop-less Inv-loop μ-loop Inv-rules μ-rules
 loop-less c =
     let round = c .before .before .before in
-    let start = round .before .before .before .before .before .before .before in
+    let start = round .before .before .before .before .before .before .before .before in
     ahead.literal-shorter (start .pre .0) (round .before .loop .literal) (literal-is round) _ (halves round .0)
 
 loop-again : tie.Need-loop-again Inv-loop μ-loop Inv-rules μ-rules
 loop-again c =
     let round = c .before .before .before in
     let inner = round .before in
-    let start = inner .before .before .before .before .before .before in
+    let start = inner .before .before .before .before .before .before .before in
     let on = hasBelt (start .args .p .now) (start .args .belts) in
     let σ = start .args .setting in
     ahead.literals-missed (start .pre .0) on σ _ (inner .loop .literal) (inner .loop .inv) (round .loop-test .taken) (said (c .before) ∙ c .if1 .left) _
@@ -166,7 +170,7 @@ returns c =
     let inner = c .before in
     let turn = inner .before .before in
     let at = turn .before in
-    let start = at .before .before .before in
+    let start = at .before .before .before .before in
     let p = start .args .p .now in
     let on = hasBelt p (start .args .belts) in
     let σ = start .args .setting in
@@ -177,7 +181,7 @@ returns c =
 returns-2 : tie.Need-returns-2 Inv-loop μ-loop Inv-rules μ-rules
 returns-2 c =
     let at = c .before in
-    let start = at .before .before .before in
+    let start = at .before .before .before .before in
     let on = hasBelt (start .args .p .now) (start .args .belts) in
     ahead.rules-done (start .pre .0) on (start .args .setting) (at .rules .next) (at .rules .inv) (c .rules-test .left)
 
@@ -191,15 +195,15 @@ all-met-spec =
     μ-rules
     mul-on
     add-on
-    element-copy-out-next
+    shared-slice-read-next
     rules-holds
     cast-rule
     mul-rule
-    element-copy-out-rule
+    shared-slice-read-rule
     loop-holds
     cast-entry
     mul-entry
-    element-copy-out-entry
+    shared-slice-read-entry
     is-true-requires
     rules-less
     rules-again

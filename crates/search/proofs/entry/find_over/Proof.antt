@@ -7,20 +7,11 @@ use Rattle.search.proofs.Replies.{turn-ended, turn-found}
 use Rattle.search.proofs.entry.find_over.Statement.{statement}
 use Rattle.search.proofs.entry.find_over.Tie as tie
 
-named-belts-requires : tie.Need-named-belts-requires
-named-belts-requires c κs = search needs
-
-places-among-requires : tie.Need-places-among-requires
-places-among-requires c κs = search needs
-
 numbers-requires : tie.Need-numbers-requires
 numbers-requires c κs = search needs
 
 exits-requires : tie.Need-exits-requires
 exits-requires c κs = search needs
-
-decode-requires : tie.Need-decode-requires
-decode-requires c κs = search needs
 
 rule-counts-requires : tie.Need-rule-counts-requires
 rule-counts-requires c κs = search needs
@@ -33,18 +24,13 @@ enum-told c = search needs
 
 -- where the run began
 abbrev begun : tie.After-run → tie.Start
-begun c = c .before .before .before .before .before .before .before .before .before .before .before .before .before .before .before .before .before .before
-
--- where its rules were made
-abbrev ruled : tie.After-run → tie.After-decode
-ruled c = c .before .before .before .before .before .before .before
+begun c = c .before .before .before .before .before .before .before .before .before .before .before
 
 write-best-requires : tie.Need-write-best-requires
 write-best-requires c κs =
-    let ran = c .before .before .before .before .before .before in
+    let ran = c .before .before .before .before in
     let start = begun ran in
-    let places = ran .before .before .before .before .before .before .before .before .before .before .before .before .before .places-among .ensures in
-    (start .pre .0, places, ruled ran .decode .ensures, ran .run .ensures .1, start .pre .2)
+    (start .pre .0, start .pre .5, start .pre .8, ran .run .ensures .1, start .pre .2)
 
 enum-told-2 : tie.Need-enum-told-2
 enum-told-2 c = search needs
@@ -61,7 +47,7 @@ same-length c = search needs
 returns : tie.Need-returns
 returns c =
     let wrote = c .before .before in
-    let told = wrote .before .before .before .before in
+    let told = wrote .before .before in
     let ran = told .before .before .before in
     let start = begun ran in
     let out = start .args .out .now in
@@ -100,11 +86,8 @@ pub find-over-spec : {M : Type 1} → statement M
 find-over-spec =
     tie.close
     (tie.spec
-    named-belts-requires
-    places-among-requires
     numbers-requires
     exits-requires
-    decode-requires
     rule-counts-requires
     run-requires
     enum-told

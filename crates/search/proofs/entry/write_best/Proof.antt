@@ -17,7 +17,7 @@ cost-requires c κs = search needs
 
 -- where it was asked for
 abbrev begun : tie.After-cost → tie.Start
-begun c = c .before .before .before .before
+begun c = c .before .before .before .before .before
 
 on-route-requires : tie.Need-on-route-requires
 on-route-requires c κs =

@@ -24,7 +24,7 @@ begin-requires c κs = search needs
 
 loop-holds : tie.Need-loop-holds Inv-loop μ-loop
 loop-holds c =
-    let args = c .before .before .before .args in
+    let args = c .before .before .before .before .args in
     (running-first (args .p .now) (args .query) (c .begin .result) (c .begin .ensures), ap (boundIn (args .p .now)) (sym (c .begin .ensures)), refl, refl)
 
 enum-told : tie.Need-enum-told Inv-loop μ-loop
@@ -32,25 +32,25 @@ enum-told c = search needs
 
 -- what is known at the ending e
 at-ending : (c : tie.At-loop Inv-loop μ-loop) (e : Ending) → c .loop .stepped .ending ≡ e
-    → let args = c .before .before .before .before .args in Handed (args .p .now) (args .query) (c .loop .stepped) e
-at-ending c e told = let args = c .before .before .before .before .args in subst (Handed (args .p .now) (args .query) (c .loop .stepped)) told (c .loop .inv .0)
+    → let args = c .before .before .before .before .before .args in Handed (args .p .now) (args .query) (c .loop .stepped) e
+at-ending c e told = let args = c .before .before .before .before .before .args in subst (Handed (args .p .now) (args .query) (c .loop .stepped)) told (c .loop .inv .0)
 
 -- the run goes on
 goes : (c : tie.After-enum-told Inv-loop μ-loop)
-    → let args = c .before .before .before .before .before .before .args in Running (args .p .now) (args .query) (c .before .before .loop .stepped .search)
+    → let args = c .before .before .before .before .before .before .before .args in Running (args .p .now) (args .query) (c .before .before .loop .stepped .search)
 goes c = at-ending (c .before .before) GoesOn (c .enum-told .given .1)
 
 step-requires : tie.Need-step-requires Inv-loop μ-loop
 step-requires c κs =
     let told = c .before .before in
     let at = told .before .before in
-    (at .before .before .before .before .pre, goes told .valid, goes told .within, at .loop .inv .1, at .loop .inv .2, at .loop .inv .3)
+    (at .before .before .before .before .before .pre, goes told .valid, goes told .within, at .loop .inv .1, at .loop .inv .2, at .loop .inv .3)
 
 loop-less : tie.Need-loop-less Inv-loop μ-loop
 loop-less c =
     let told = c .before .before .before in
     let at = told .before .before in
-    let args = at .before .before .before .before .args in
+    let args = at .before .before .before .before .before .args in
     subst (λ (e : Ending). left (args .query) (c .step .result) (c .step .result .ending) < left (args .query) (at .loop .stepped) e) (sym (told .enum-told .given .1))
     (fewer (args .p .now) (args .query) (goes told) (c .step .result) (c .step .ensures .0) (c .step .ensures .1))
 
@@ -58,7 +58,7 @@ loop-again : tie.Need-loop-again Inv-loop μ-loop
 loop-again c =
     let told = c .before .before .before in
     let at = told .before .before in
-    let args = at .before .before .before .before .args in
+    let args = at .before .before .before .before .before .args in
     let (turn, valid, bound, same, kept) = c .step .ensures in
     (handed (args .p .now) (args .query) (goes told) (c .step .result) turn valid, bound, same ∙ at .loop .inv .2, ap length kept ∙ kept-in-size (args .p .now) (args .query) (at .loop .stepped .search) (at .loop .kept) ∙ at .loop .inv .3)
 

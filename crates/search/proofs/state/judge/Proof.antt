@@ -33,21 +33,21 @@ On c route = c .args .better ≡ true → OnRoute (c .args .p .now) (c .args .ma
 
 returns : tie.Need-returns
 returns c route on =
-    let a = c .before .before .args in
+    let a = c .before .before .before .args in
     sym (ap (judgedIn (a .p .now) (a .query) (a .fixings) route) (not-true (a .better) (c .if1 .taken)))
 
 -- the relaxed route improves on the best
-better : (c : tie.Else1) → c .before .before .args .better ≡ true
-better c = not-false (c .before .before .args .better) (c .if1 .left)
+better : (c : tie.Else1) → c .before .before .before .args .better ≡ true
+better c = not-false (c .before .before .before .args .better) (c .if1 .left)
 
 lowest-setting-requires : tie.Need-lowest-setting-requires
-lowest-setting-requires c κs = let pre = c .before .before .pre in (pre .0, pre .1, pre .3 (better c))
+lowest-setting-requires c κs = let pre = c .before .before .before .pre in (pre .0, pre .1, pre .3 (better c))
 
 -- so it goes by the setting
-by-setting : (c : tie.After-lowest-setting) (route : Route) → On (c .before .before .before) route → (o : Option ℕ) → settingIn (c .lowest-setting .result) ≡ o
-    → let start = c .before .before .before in wanted start route ≡ testedAs (place start route) o
+by-setting : (c : tie.After-lowest-setting) (route : Route) → On (c .before .before .before .before) route → (o : Option ℕ) → settingIn (c .lowest-setting .result) ≡ o
+    → let start = c .before .before .before .before in wanted start route ≡ testedAs (place start route) o
 by-setting c route on o e =
-    let start = c .before .before .before in
+    let start = c .before .before .before .before in
     let a = start .args in
     let there = on (better (c .before)) in
     let b = a .p .now in
@@ -64,7 +64,7 @@ enum-told c = search needs
 picked-requires : tie.Need-picked-requires
 picked-requires c κs =
     let some = c .before .before .before in
-    let pre = some .before .before .pre in
+    let pre = some .before .before .before .pre in
     (pre .0, pre .2, pre .3 (better some))
 
 enum-known-place : tie.Need-enum-known-place
@@ -77,8 +77,8 @@ returns-2 : tie.Need-returns-2
 returns-2 c route on = sym (by-setting (c .before .before .before) route on _ (ap settingIn (c .before .setting .given .1)))
 
 -- no setting works, so it goes by the belt picked
-by-place : (c : tie.After-picked) (route : Route) → On (c .before .before .before .before .before .before) route → (q : Place) → c .picked .result ≡ q
-    → branchAt q ≡ wanted (c .before .before .before .before .before .before) route
+by-place : (c : tie.After-picked) (route : Route) → On (c .before .before .before .before .before .before .before) route → (q : Place) → c .picked .result ≡ q
+    → branchAt q ≡ wanted (c .before .before .before .before .before .before .before) route
 by-place c route on q e =
     let some = c .before .before .before .before in
     ap branchAt (sym e ∙ c .picked .ensures route (on (better some)))

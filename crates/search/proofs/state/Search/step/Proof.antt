@@ -41,7 +41,7 @@ ended-requires c κs = search needs
 
 returns : tie.Need-returns
 returns c =
-    let start = c .before .before .before .before .before in
+    let start = c .before .before .before .before .before .before in
     let b = start .args .p .now in
     let q = start .args .query in
     let v = start .args .self in
@@ -67,7 +67,7 @@ sub-top c = search needs
 
 -- one waits, and the budget is not spent
 abbrev start : tie.Else2 → tie.Start
-start c = c .before .before .before .before .before .before .before
+start c = c .before .before .before .before .before .before .before .before
 
 abbrev now : tie.Else2 → Search
 now c = start c .args .self
@@ -106,7 +106,7 @@ taken c =
     popped-taken (start c .pre .0 .accepted) (now c) (places (now c) (start c .good .0 .1 .1 .0 .1 .0 .1)) (start c .pre .1) (c .before .before .before .if1 .left)
 
 bytes : (c : tie.Else2) → Bytes (start c .args .p .now)
-bytes c = λ i. c .before .before .before .before .before .before .shared-slice-known .given i .fits
+bytes c = λ i. c .before .before .before .before .before .before .before .shared-slice-known .given i .fits
 
 relaxed-route-requires : tie.Need-relaxed-route-requires
 relaxed-route-requires c κs =
