@@ -23,8 +23,8 @@
 --                      forbidden belt
 --   BitClaim           bit k of a mask is for the k-th of the named belts
 --   MasksClaim         every subproblem of named belts has masks, with the same relaxed routes
---   AnswerClaim        a relaxed route has at most 255 belts, all of the plan, and costs less than costLimit; the code's answer holds it, and in room
---                      that the code put its belts into it stands whole: it can be tested, written and checked
+--   AnswerClaim        a relaxed route costs less than costLimit, and a Route holds it, of at most 255 belts, all of the plan; out of room that the
+--                      code put its belts into the same Route is read: it can be tested, written and checked
 -- Sheets:
 --   ReadingClaim       bytes are in the form of a sheet exactly when they have a reading, which is what stands in their fields
 --   OneReadingClaim    a sheet has at most one reading

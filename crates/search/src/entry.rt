@@ -151,7 +151,7 @@ fn find_over(
     }
 }
 
-// The same, with what is made of the plan. An array is cleared whole for each query, so a plan of up to 256 records, as most are, has smaller ones.
+// The same, with what is made of the plan. An array is cleared whole for each query, so a small plan, of up to 256 records, has smaller ones.
 fn find_route(p: &[u8], query: Query, out: &mut [u8]) -> Answer
     requires { ⌜ Accepted (now p) × (wrongEnds (planOf (now p)) (query .trip .s) (query .trip .t) ≡ false) × (3072 ≤ length (now out)) ⌝ }
     ensures { λ v. ⌜ Told (replyOf v) (now (out .entry)) (now (out .exit)) (unlessRefused 0 (requestOf (now (p .entry)) query (now (out .entry)))) ⌝ }

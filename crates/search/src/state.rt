@@ -150,10 +150,11 @@ fn child(fixings: Fixings, k: usize, required: bool) -> Fixings
 }
 
 impl Search {
-    // One step. What is lent is made once for all steps: the places of the plan's named belts (plan::named::named_places) and their numbers (route::relax::numbers), its belts side by side
-    // (plan::adjacency::decode), the named belts that leave each junction (route::relax::exits), its rules (route::clauses::decode) and the counts
-    // (pick::rule_counts). `bound` is that of the search, as a step hands it back with it. `ways` and `kept` are room to work in: `ways` is all 0 before
-    // and after, and `kept` has the relaxed route of the subproblem that was opened, over what it had before.
+    // One step. What is lent is made once for all steps: the places of the plan's named belts (plan::named::named_places) and their numbers
+    // (route::relax::numbers), its belts side by side (plan::adjacency::decode), the named belts that leave each junction (route::relax::exits), its
+    // rules (route::clauses::decode) and the counts (pick::rule_counts). `bound` is that of the search, as a step hands it back with it. `ways` and
+    // `kept` are room to work in: `ways` is all 0 before and after, and `kept` has the relaxed route of the subproblem that was opened, if there is one
+    // within the bound, over what it had before.
     // The search is changed here alone: each function that it were handed on to would copy it. The relaxed route is read out of `kept` only where its
     // cost does not decide, or where it becomes the best.
     pub fn step(
