@@ -90,8 +90,9 @@ impl Case<'_> {
         let records = bytes.len() / RECORD;
         let tally = &mut self.judge.tally;
         tally.add("junctions", ["1", "2..12", "13..255", "256"][rank(plan.junctions, &[1, 12, 255])]);
-        let sizes = ["up to 100", "up to 2047", "2048"];
-        tally.add("records", if records == plan.junctions + 1 { "J + 1" } else { sizes[rank(records, &[100, 2047])] });
+        let sizes = ["up to 100", "up to 255", "256", "257", "up to 2047", "2048"];
+        let size = sizes[rank(records, &[100, 255, 256, 257, 2047])];
+        tally.add("records", if records == plan.junctions + 1 { "J + 1" } else { size });
         tally.add("modes", &plan.modes.to_string());
         tally.add("named belts", ["0", "1..4", "5..16", "17..47", "48"][rank(named.count, &[0, 4, 16, 47])]);
         let mut ends: Vec<(usize, usize)> = plan.belts.iter().map(|belt| (belt.from, belt.to)).collect();

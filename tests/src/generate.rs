@@ -24,6 +24,11 @@ fn small(mut draft: Draft, rng: &mut Rng) -> Draft {
     rng.shuffle(&mut draft.belts);
     let most_named = pool_size(rng);
     add_rules(&mut draft, most_named, rng);
+    // At and around 256 records, where the planner takes larger arrays.
+    if rng.chance(1, 60) {
+        let records = rng.range(255, 258);
+        fill(&mut draft, records, rng);
+    }
     draft
 }
 

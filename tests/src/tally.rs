@@ -11,7 +11,10 @@ pub struct Tally {
 const CLASSES: [(&str, &[&str]); 10] = [
     ("junctions", &["1", "2..12", "13..255", "256", "257 (refused)"]),
     ("modes", &["11 (refused)"]),
-    ("records", &["J + 1", "up to 100", "up to 2047", "2048", "2049 (refused)"]),
+    (
+        "records",
+        &["J + 1", "up to 100", "up to 255", "256", "257", "up to 2047", "2048", "2049 (refused)"],
+    ),
     ("named belts", &["0", "1..4", "5..16", "17..47", "48", "49 (refused)"]),
     ("ending", &["route", "none", "spent"]),
     ("steps of the route", &["0", "1", "2..9", "10..254", "255"]),
