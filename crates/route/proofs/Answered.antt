@@ -5,7 +5,7 @@
 -- Assumes nothing.
 use mathlib.Core.Path.{_≡_, sym, _∙_, ap, subst}
 use mathlib.Core.Option.{some}
-use Prim.Native.Nat.{ℕ, _+_, _≤_}
+use Prim.Native.Nat.{ℕ, _+_, _-_, _≤_}
 use mathlib.Core.List.{List, List·Memᴰ}
 use native.Mathlib.Omega.{arith}
 use lib.ListN.{length, take, drop, length-map}
@@ -14,10 +14,11 @@ use Rattle.plan.specs.Plan.{Belt, planOf, namesOf}
 use Rattle.plan.specs.Reading.{Accepted, IsBelt}
 use Rattle.plan.proofs.Lists.{map-in}
 use Rattle.plan.proofs.Reading.{belt-of}
-use Rattle.route.specs.Routes.{IsRoute, beltsByName}
+use Rattle.route.specs.Routes.{IsRoute, costLimit, beltsByName}
 use Rattle.route.specs.Values.{idsOf, packed, Known, routeIn, routeOf, firstBelts, keptOf}
 use Rattle.route.specs.Claims.{AnswerClaim}
 use Rattle.route.proofs.ByName.{names-belts, route-few, route-cheap, route-belts, ids-packed}
+use Rattle.route.proofs.Bounded.{at-most-some}
 use Rattle.route.proofs.Firsts.{relaxed-some}
 
 -- a route between junctions of the plan, as the code holds it
@@ -46,10 +47,13 @@ stands r h room size =
 pub answer-claim : AnswerClaim
 answer-claim b ok bytes s t low high x r q =
     let i : IsRoute (planOf b) s t r = relaxed-some ok s t x r q .0 in
-    let h = few ok s t r i low high in (
-      route-cheap ok bytes s t r high i,
-      known ok s t r i low high,
-      ids-packed (namesOf r) h,
-      same ok s t r i low high,
-      stands r (omega (arith, length-map r (λ (e : Belt). e .name))),
-    )
+    let h = few ok s t r i low high in
+    let cheap = route-cheap ok bytes s t r high i in
+    record {
+      cheap = cheap;
+      within = at-most-some (costLimit - 1) (some r) (omega arith);
+      known = known ok s t r i low high;
+      names = ids-packed (namesOf r) h;
+      same = same ok s t r i low high;
+      back = stands r (omega (arith, length-map r (λ (e : Belt). e .name)));
+    }

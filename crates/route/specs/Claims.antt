@@ -23,8 +23,9 @@
 --                      forbidden belt
 --   BitClaim           bit k of a mask is for the k-th of the named belts
 --   MasksClaim         every subproblem of named belts has masks, with the same relaxed routes
---   AnswerClaim        a relaxed route costs less than costLimit, and a Route holds it, of at most 255 belts, all of the plan; out of room that the
---                      code put its belts into the same Route is read: it can be tested, written and checked
+--   AnswerClaim        a relaxed route can be tested, written and checked (Holdable): it costs less than costLimit, so a bound of costLimit - 1
+--                      drops none; a Route holds it, of at most 255 belts, all of the plan; and out of room that the code put its belts into the
+--                      same Route is read
 -- Sheets:
 --   ReadingClaim       bytes are in the form of a sheet exactly when they have a reading, which is what stands in their fields
 --   OneReadingClaim    a sheet has at most one reading
@@ -40,7 +41,7 @@ use mathlib.Core.Path.{_≡_}
 use mathlib.Core.Logic.{_⊎_, _↔_}
 use mathlib.Core.Bool.{true, false}
 use mathlib.Core.Option.{none, some}
-use Prim.Native.Nat.{ℕ, _/_, _%_, _^_, _≤_, _<_}
+use Prim.Native.Nat.{ℕ, _-_, _/_, _%_, _^_, _≤_, _<_}
 use mathlib.Core.List.{List, [], _++_, map, List·Memᴰ}
 use lib.ListN.{length, getD}
 use lib.Dec.{eqb}
@@ -59,7 +60,7 @@ use Rattle.route.specs.Instances.{arcOf, instanceOf, joint}
 use Rattle.route.specs.Sheets.{sheetOf, Reads, inForm, beltsOn, costOn, settingOn}
 use Rattle.route.specs.Refusals.{Case, queryLines, checkLines, sheetRefusal}
 use Rattle.route.specs.declared.relax.Fixings.{Fixings}
-use Rattle.route.specs.Values.{idsOf, packed, Known, routeIn, sheetIn, bytesOf, fixedIn, OfNamed, subproblemIn, routeOf, firstBelts, keptOf, caseOf}
+use Rattle.route.specs.Values.{idsOf, packed, Known, routeIn, sheetIn, bytesOf, fixedIn, OfNamed, subproblemIn, routeOf, firstBelts, atMost, keptOf, caseOf}
 
 -- ---- the published definition
 
@@ -140,11 +141,17 @@ MasksClaim = (b : List ℕ) → Accepted b → (x : Subproblem)
     → (f : Fixings) × OfNamed b (f .required) × OfNamed b (f .forbidden)
     × ((s t : ℕ) → relaxed (planOf b) s t (subproblemIn b f) ≡ relaxed (planOf b) s t x)
 
+pub record Holdable (b : List ℕ) (r : List Belt) : Type 0 where
+  pub cheap : cost r < costLimit
+  pub within : atMost (costLimit - 1) (some r) ≡ some r
+  pub known : Known b (routeOf r)
+  pub names : idsOf (routeOf r) ≡ namesOf r
+  pub same : routeIn b (routeOf r) ≡ r
+  pub back : (room : List ℕ) → length room ≡ 255 → firstBelts (length r) (keptOf (some r) room) ≡ routeOf r
+
 abbrev pub AnswerClaim : Type 0
 AnswerClaim = (b : List ℕ) → Accepted b → Bytes b → (s t : ℕ) → 1 ≤ s → t ≤ planOf b .junctions → (x : Subproblem) (r : List Belt)
-    → relaxed (planOf b) s t x ≡ some r
-    → (cost r < costLimit) × Known b (routeOf r) × (idsOf (routeOf r) ≡ namesOf r) × (routeIn b (routeOf r) ≡ r)
-    × ((room : List ℕ) → length room ≡ 255 → firstBelts (length r) (keptOf (some r) room) ≡ routeOf r)
+    → relaxed (planOf b) s t x ≡ some r → Holdable b r
 
 -- ---- sheets
 

@@ -22,7 +22,7 @@ use native.Mathlib.Omega.{arith}
 use lib.ListN.{length, length-map}
 use lib.Dec.{eqb, leb}
 use borrow.Author.Tests.{leb-true, leb-false, le-leb, lt-leb, lt-ltb, le-ltb}
-use Rattle.plan.specs.Plan.{Belt, planOf, namesOf}
+use Rattle.plan.specs.Plan.{Belt, planOf}
 use Rattle.plan.specs.Reading.{Accepted, Bytes}
 use Rattle.plan.proofs.Lists.{test}
 use Rattle.route.specs.declared.path.Route.{Route}
@@ -30,7 +30,8 @@ use Rattle.route.specs.declared.path.Trip.{Trip}
 use Rattle.route.specs.declared.relax.Fixings.{Fixings}
 use Rattle.route.specs.declared.relax.Summary.{Summary}
 use Rattle.route.specs.Routes.{wrongEnds, cost, costLimit, lower}
-use Rattle.route.specs.Values.{idsOf, Known, routeIn, routeOf, firstBelts, subproblemIn, atMost, summaryAs, keptOf}
+use Rattle.route.specs.Values.{Known, routeIn, firstBelts, subproblemIn, atMost, summaryAs, keptOf}
+use Rattle.route.specs.Claims.{Holdable}
 use Rattle.route.specs.Inner.{wayCost}
 use Rattle.route.proofs.ByName.{known-cheap, ends-junctions}
 use Rattle.route.proofs.Order.{first-ne}
@@ -134,9 +135,7 @@ module _ (b : List ℕ) (o : Option (List Belt)) (t : Bool) (best : Route) (k : 
 
 module _ {b : List ℕ} (ok : Accepted b) (bytes : Bytes b) (q : Trip) (ends : wrongEnds (planOf b) (q .s) (q .t) ≡ false) (f : Fixings) where
   -- what is claimed of the relaxed route
-  claim : (r : List Belt) → relaxedIn b q f ≡ some r
-      → (cost r < costLimit) × Known b (routeOf r) × (idsOf (routeOf r) ≡ namesOf r) × (routeIn b (routeOf r) ≡ r)
-      × ((room : List ℕ) → length room ≡ 255 → firstBelts (length r) (keptOf (some r) room) ≡ routeOf r)
+  claim : (r : List Belt) → relaxedIn b q f ≡ some r → Holdable b r
   claim r e =
       let inside = ends-junctions (planOf b) (q .s) (q .t) ends in
       answer-claim b ok bytes (q .s) (q .t) (inside .0) (inside .3) (subproblemIn b f) r e
@@ -145,15 +144,15 @@ module _ {b : List ℕ} (ok : Accepted b) (bytes : Bytes b) (q : Trip) (ends : w
       → v ≡ summaryAs b (atMost k (relaxedIn b q f)) → Tells b (relaxedIn b q f) t best k v
   tells t best known k bound v e =
       let low : k < costLimit = subst (λ (n : ℕ). n < costLimit) (sym bound) (bound-low ok bytes t best known) in
-      sum-tells b (relaxedIn b q f) t best k v bound (λ r i. claim r i .0) (summed b k (relaxedIn b q f) v low e)
+      sum-tells b (relaxedIn b q f) t best k v bound (λ r i. claim r i .cheap) (summed b k (relaxedIn b q f) v low e)
 
   module _ {k : ℕ} {v : Summary} (h : Held b k (relaxedIn b q f) v) where
     pub held-few : v .count ≤ 255
-    held-few = omega (arith, ap (λ (w : Summary). w .count) (h .summary), claim (h .route) (h .is) .1 .few, length-map (h .route) (λ (e : Belt). e .name))
+    held-few = omega (arith, ap (λ (w : Summary). w .count) (h .summary), claim (h .route) (h .is) .known .few, length-map (h .route) (λ (e : Belt). e .name))
 
     pub held-back : (room : List ℕ) → length room ≡ 255 → firstBelts (v .count) (keptOf (atMost k (relaxedIn b q f)) room) ≡ heldAs (relaxedIn b q f)
     held-back room size =
-        (λ i. firstBelts (h .summary i .count) (keptOf (h .within i) room)) ∙ claim (h .route) (h .is) .4 room size ∙ sym (ap heldAs (h .is))
+        (λ i. firstBelts (h .summary i .count) (keptOf (h .within i) room)) ∙ claim (h .route) (h .is) .back room size ∙ sym (ap heldAs (h .is))
 
 pub best-better : (b : List ℕ) (q : Query) (f : Fixings) (r : Route) (t : Bool) → judgedIn b q f r t ≡ Best → t ≡ true
 best-better b q f r true h = refl

@@ -50,8 +50,8 @@ pub answered : {b : List ℕ} → Accepted b → Bytes b → (s t : ℕ) → wro
     → OnRoute b (maskOf b (namesOf r)) (routeOf r) × (routeOf r ≡ packed (idsOf (routeOf r))) × (routeIn b (routeOf r) ≡ r)
 answered {b} ok bytes s t ends x r e =
     let inside = ends-junctions (planOf b) s t ends in
-    let (cheap, known, ids, same, stands) = answer-claim b ok bytes s t (inside .0) (inside .3) x r e in
-    (record { known = known; mask = ap (maskOf b) (sym ids) }, ap packed (sym ids), same)
+    let holds = answer-claim b ok bytes s t (inside .0) (inside .3) x r e in
+    (record { known = holds .known; mask = ap (maskOf b) (sym (holds .names)) }, ap packed (sym (holds .names)), holds .same)
 
 -- ---- steps 3 to 6
 
