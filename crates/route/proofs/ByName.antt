@@ -17,7 +17,7 @@
 --   ends-junctions   s and t are junctions where they are no wrong ends
 -- Routes as the code holds them:
 --   ids-packed       a packed route holds the belts that were packed
---   packed-sets      belts stored from the front of an array of 255 are `packed`; packed-more: one more of them
+--   packed-sets      belts stored from the front of an array of 255 are `packed`
 --   known-route      the belts that a known Route holds are the belts at their records
 --   known-names      and their names are those that it holds
 --   known-cheap      they cost less than costLimit
@@ -26,11 +26,11 @@
 use mathlib.Core.Path.{_≡_, refl, sym, _∙_, ap}
 use mathlib.Core.Logic.{_⊎_, inl, inr}
 use mathlib.Core.Bool.{Bool, true, false, _&&_, _||_}
-use Prim.Native.Nat.{ℕ, suc, _+_, _*_, _-_, _≤_, _<_}
-use mathlib.Core.List.{List, [], _∷_, _++_, map, List·Memᴰ, List·Memᴰ·head, List·Memᴰ·tail, List·Memᴰ·not-nil, List·Memᴰ·cases-cons, map-append, map-map, map-id}
+use Prim.Native.Nat.{ℕ, _+_, _*_, _-_, _≤_, _<_}
+use mathlib.Core.List.{List, [], _∷_, _++_, map, List·Memᴰ, List·Memᴰ·head, List·Memᴰ·tail, List·Memᴰ·not-nil, List·Memᴰ·cases-cons, map-map, map-id}
 use native.Mathlib.Omega.{arith}
-use lib.ListN.{length, getD, take, set, replicate, length-map, length-take}
-use lib.Seq.{take-at, take-suc, length-take-le, set-at, append-snoc, sets}
+use lib.ListN.{length, take, replicate, length-map, length-take}
+use lib.Seq.{take-at, sets}
 use lib.Dec.{eqb}
 use borrow.Author.Tests.{eqb-true, eq-eqb, ne-eqb, not-false}
 use Rattle.plan.specs.declared.read.BeltId.{BeltId}
@@ -143,21 +143,6 @@ ids-packed es h =
 
 pub packed-sets : (es : List ℕ) → length es ≤ 255 → sets (replicate 255 (beltId 0)) 0 (map beltId es) ≡ packed es .belts
 packed-sets = ids-sets 255
-
-pub packed-more : (ns : List ℕ) (k : ℕ) → k < length ns → k < 255 → set (packed (take k ns) .belts) k (beltId (getD ns k 0)) ≡ packed (take (suc k) ns) .belts
-packed-more ns k h l =
-    let low = map beltId (take k ns) in
-    let rest = replicate (254 - k) (beltId 0) in
-    let here = length-take-le k ns (omega arith) in
-    let next = length-take-le (suc k) ns (omega arith) in
-    let one : 255 - length (take k ns) ≡ suc (254 - k) = omega arith in
-    let left : 254 - k ≡ 255 - length (take (suc k) ns) = omega arith in
-    let v = beltId (getD ns k 0) in
-    ap (λ (n : ℕ). set (low ++ replicate n (beltId 0)) k v) one
-    ∙ set-at low (beltId 0) rest v k (length-map (take k ns) beltId ∙ here)
-    ∙ sym (append-snoc low v rest)
-    ∙ ap (λ (l : List BeltId). l ++ rest) (sym (ap (map beltId) (take-suc ns k 0 h) ∙ map-append beltId (take k ns) (getD ns k 0 ∷ [])))
-    ∙ ap (λ (n : ℕ). map beltId (take (suc k) ns) ++ replicate n (beltId 0)) left
 
 pub known-route : {b : List ℕ} → Accepted b → (r : Route) → Known b r → routeIn b r ≡ map (beltAt b) (idsOf r)
 known-route ok r k = named-map ok (idsOf r) (k .belts)

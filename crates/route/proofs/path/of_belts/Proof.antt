@@ -1,26 +1,32 @@
--- `route::path::of_belts` meets its contract: the first k belts are stored. Assumes nothing.
-use mathlib.Core.Path.{_≡_, refl, sym, _∙_, ap}
+-- `route::path::of_belts` meets its contract: the belts with those that are still to be stored are the array of all. Assumes nothing.
+use mathlib.Core.Path.{_≡_, sym, _∙_, ap}
 use Prim.Native.Nat.{ℕ, _-_, _≤_, _<_}
+use mathlib.Core.List.{List, map}
 use native.Mathlib.Omega.{arith}
 use native.Mathlib.Numerals.{add-one}
-use mathlib.Core.List.{List}
-use lib.ListN.{length, getD, take, set}
-use Rattle.plan.specs.declared.read.BeltId.{BeltId}
-use lib.Seq.{length-take-le}
+use lib.ListN.{length, getD, take, drop, set, drop-of-length-le}
+use lib.Seq.{length-take-le, drop-cons, getD-take, sets}
 use Rattle.plan.specs.Plan.{beltId}
 use Rattle.route.specs.Values.{packed}
-use Rattle.route.proofs.ByName.{packed-more}
+use Rattle.route.proofs.ByName.{packed-sets}
 use Rattle.route.proofs.path.of_belts.Statement.{statement}
 use Rattle.route.proofs.path.of_belts.Tie as tie
 
 abbrev Inv-loop : tie.InvT-loop
-Inv-loop numbers count belts₀ k₀ belts k = (k ≤ count) × (belts ≡ packed (take k numbers) .belts)
+Inv-loop numbers count belts₀ k₀ belts k = sets belts k (map beltId (drop k (take count numbers))) ≡ packed (take count numbers) .belts
 
 abbrev μ-loop : tie.MeasureT-loop
 μ-loop numbers count belts₀ k₀ belts k = count - k
 
+-- the numbers that are asked for
+abbrev first : tie.Start Inv-loop μ-loop → List ℕ
+first c = take (c .args .count) (c .args .numbers .now)
+
+many : (c : tie.Start Inv-loop μ-loop) → length (first c) ≡ c .args .count
+many c = length-take-le (c .args .count) (c .args .numbers .now) (omega (arith, c .pre .0, c .pre .1))
+
 loop-holds : tie.Need-loop-holds Inv-loop μ-loop
-loop-holds c = (omega arith, refl)
+loop-holds c = packed-sets (first c) (omega (arith, many c, c .pre .0))
 
 -- there is one more
 low : (c : tie.In-loop Inv-loop μ-loop) → c .before .loop .k < 255
@@ -49,21 +55,20 @@ loop-again c =
     let at = c .before in
     let loop = at .before .loop in
     let start = at .before .before in
-    let ns = start .args .numbers .now in (
-      omega (arith, at .loop-test .taken),
-      ap (λ (bs : List BeltId). set bs (loop .k) (beltId (getD ns (loop .k) 0))) (loop .inv .1)
-          ∙ packed-more ns (loop .k) (omega (arith, start .pre .1, low at)) (low at)
-          ∙ sym (ap (λ (n : ℕ). packed (take n ns) .belts) (add-one (loop .k))),
-    )
+    let k = loop .k in
+    let ns = first start in
+    let number = getD-take (start .args .count) (start .args .numbers .now) k 0 (at .loop-test .taken) in
+    (λ i. sets (set (loop .belts) k (beltId (sym number i))) (add-one k i) (map beltId (drop (add-one k i) ns)))
+    ∙ sym (ap (λ (l : List ℕ). sets (loop .belts) k (map beltId l)) (drop-cons ns k 0 (omega (arith, at .loop-test .taken, many start))))
+    ∙ loop .inv
 
 returns : tie.Need-returns Inv-loop μ-loop
 returns c =
     let loop = c .before .loop in
     let start = c .before .before in
-    let ns = start .args .numbers .now in
-    let e : loop .k ≡ start .args .count = omega (arith, loop .inv .0, c .loop-test .left) in
-    let many = length-take-le (start .args .count) ns (omega (arith, start .pre .0, start .pre .1)) in
-    λ i. record { count = sym many i; belts = (loop .inv .1 ∙ ap (λ (n : ℕ). packed (take n ns) .belts) e) i }
+    let done = drop-of-length-le (first start) {i = loop .k} (omega (arith, c .loop-test .left, many start)) in
+    let stored = sym (ap (λ (l : List ℕ). sets (loop .belts) (loop .k) (map beltId l)) done) ∙ loop .inv in
+    λ i. record { count = sym (many start) i; belts = stored i }
 
 pub of-belts-spec : {M : Type 1} → statement M
 of-belts-spec =
