@@ -1,10 +1,14 @@
-// The listing: the planner's answers as lines of text. Which values are printed is proved (line_of); how they are written out is outside the
-// logic, and is held by comparing the output of the programs that use this.
+// The listing: the planner's answers as lines of text, gathered and written in large pieces. Which values are printed is proved (line_of); how
+// they are written out is held by comparing the output of the programs that use this.
 //
 //   s t cost setting opened belts..   a route
 //   s t none opened                   no route is permitted
 //   s t spent opened                  the budget is spent
 //   refused n                         the number of the first broken line of the refusal table
+use output::Gathered;
+use output::Room;
+use output::put;
+use output::put_number;
 use plan::read;
 use plan::read::BeltId;
 use route::path::Route;
@@ -17,25 +21,31 @@ use search::query::Query;
 ghost use mathlib.Core.Path.{_≡_};
 ghost use Prim.Native.Nat.{_≤_};
 ghost use Rattle.plan.specs.Reading.{Accepted};
+ghost use Rattle.plan.specs.Refusals.{refusal};
 ghost use Rattle.listing.specs.Lines.{blank, readSheet, sheetAt, lineOf};
 
-// A word and a number behind it.
-fn print(word: &[u8], n: u64) {
-    io::write_all(1, word);
-    io::print_decimal(1, n);
+// Gathers the belts of a route, each behind a space.
+fn put_belts(room: &mut Room, gathered: Gathered, route: Route) -> Gathered
+    requires { ⌜ route .count ≤ 255 ⌝ }
+{
+    let belts = route.belts;
+    let mut now = gathered;
+    let mut k = 0;
+    while k < route.count {
+        let belt = belts[k];
+        now = put_number(room, now, b" ", belt.0 as u64);
+        k += 1;
+    }
+    now
 }
 
 // Prints the belts of a route, each behind a space.
 pub fn print_belts(route: Route)
     requires { ⌜ route .count ≤ 255 ⌝ }
 {
-    let belts = route.belts;
-    let mut k = 0;
-    while k < route.count {
-        let belt = belts[k];
-        print(b" ", belt.0 as u64);
-        k += 1;
-    }
+    let mut room = io::large_buffer();
+    let gathered = put_belts(&mut room, output::nothing(), route);
+    output::finish(&room, gathered);
 }
 
 // What is printed of an answer: its number, how many were opened, and what its sheet says; nothing where it has none.
@@ -92,50 +102,74 @@ pub fn line_of(answer: Answer, out: &[u8]) -> Line
     }
 }
 
+// Gathers what a route's sheet says.
+fn put_route(room: &mut Room, gathered: Gathered, sheet: Sheet, opened: u64) -> Gathered
+    requires { ⌜ sheet .route .count ≤ 255 ⌝ }
+{
+    let cost = put_number(room, gathered, b" ", sheet.cost);
+    let setting = put_number(room, cost, b" ", sheet.setting as u64);
+    let count = put_number(room, setting, b" ", opened);
+    put_belts(room, count, sheet.route)
+}
+
+// Gathers a line behind s and t.
+fn put_line(room: &mut Room, gathered: Gathered, line: Line) -> Gathered
+    requires { ⌜ line .sheet .route .count ≤ 255 ⌝ }
+{
+    if line.number == 0 {
+        return put_route(room, gathered, line.sheet, line.opened);
+    }
+    if line.number == 100 {
+        return put_number(room, gathered, b" none ", line.opened);
+    }
+    if line.number == 101 {
+        return put_number(room, gathered, b" spent ", line.opened);
+    }
+    put_number(room, gathered, b" refused ", line.number as u64)
+}
+
 // Prints a line behind s and t.
 pub fn print_line(line: Line)
     requires { ⌜ line .sheet .route .count ≤ 255 ⌝ }
 {
-    if line.number == 0 {
-        let sheet = line.sheet;
-        print(b" ", sheet.cost);
-        print(b" ", sheet.setting as u64);
-        print(b" ", line.opened);
-        print_belts(sheet.route);
-        return;
-    }
-    if line.number == 100 {
-        print(b" none ", line.opened);
-        return;
-    }
-    if line.number == 101 {
-        print(b" spent ", line.opened);
-        return;
-    }
-    print(b" refused ", line.number as u64);
+    let mut room = io::large_buffer();
+    let gathered = put_line(&mut room, output::nothing(), line);
+    output::finish(&room, gathered);
 }
 
-// The line of a plan or a query that is refused.
-fn print_refused(number: u8) {
-    print(b"refused ", number as u64);
-    io::write_all(1, b"\n");
+// Gathers the line of a plan or a query that is refused.
+fn put_refused(room: &mut Room, gathered: Gathered, number: u8) -> Gathered {
+    let said = put_number(room, gathered, b"refused ", number as u64);
+    put(room, said, b"\n")
 }
 
-// Prints the line of a query by its answer: s and t stand first; a refusal stands by itself.
-pub fn print_query(trip: Trip, answer: Answer, out: &[u8]) {
+// Gathers the line of a query by its answer: s and t stand first; a refusal stands by itself.
+fn put_query(
+    room: &mut Room,
+    gathered: Gathered,
+    trip: Trip,
+    answer: Answer,
+    out: &[u8],
+) -> Gathered {
     let line = line_of(answer, out);
     if line.number == 0 || 100 <= line.number {
-        io::print_decimal(1, trip.s);
-        print(b" ", trip.t);
-        print_line(line);
-        io::write_all(1, b"\n");
-    } else {
-        print_refused(line.number);
+        let s = put_number(room, gathered, b"", trip.s);
+        let t = put_number(room, s, b" ", trip.t);
+        let all = put_line(room, t, line);
+        return put(room, all, b"\n");
     }
+    put_refused(room, gathered, line.number)
+}
+
+// Prints the line of a query by its answer.
+pub fn print_query(trip: Trip, answer: Answer, out: &[u8]) {
+    let mut room = io::large_buffer();
+    let gathered = put_query(&mut room, output::nothing(), trip, answer, out);
+    output::finish(&room, gathered);
 }
 
 // The line from s to t: pick 0, order 0, budget 1,000,000.
-fn print_pair(p: &[u8], s: u64, t: u64) {
+fn put_pair(room: &mut Room, gathered: Gathered, p: &[u8], s: u64, t: u64) -> Gathered {
     let query = Query {
         trip: Trip { s: s, t: t },
         pick: 0,
@@ -144,36 +178,52 @@ fn print_pair(p: &[u8], s: u64, t: u64) {
     };
     let mut out = [0u8; 3072];
     let answer = entry::search(p, query, &mut out);
-    print_query(query.trip, answer, &out);
+    put_query(room, gathered, query.trip, answer, &out)
 }
 
 // The lines from s to each later junction.
-fn print_from(p: &[u8], s: u64, last: u64) {
+fn put_from(room: &mut Room, gathered: Gathered, p: &[u8], s: u64, last: u64) -> Gathered {
+    let mut now = gathered;
     let mut t = s;
     while t < last {
         t += 1;
-        print_pair(p, s, t);
+        now = put_pair(room, now, p, s, t);
     }
+    now
 }
 
 // The lines of an accepted plan.
-fn print_lines(p: &[u8])
+fn put_lines(room: &mut Room, gathered: Gathered, p: &[u8]) -> Gathered
     requires { ⌜ Accepted (now p) ⌝ }
 {
     let last = read::junctions(p) as u64;
+    let mut now = gathered;
     let mut s = 1;
     while s < last {
-        print_from(p, s, last);
+        now = put_from(room, now, p, s, last);
         s += 1;
     }
+    now
 }
 
-// Prints a line for each two junctions s < t of the plan, in rising s, then t; or that the plan is refused.
-pub fn print_listing(p: &[u8]) {
-    let number = plan::check::number(plan::check::check(p));
+// Gathers the listing of a plan that the check has given this number.
+fn put_listing(room: &mut Room, gathered: Gathered, p: &[u8], number: u8) -> Gathered
+    requires { ⌜ number ≡ refusal (now p) ⌝ }
+{
     if number == 0 {
-        print_lines(p);
-    } else {
-        print_refused(number);
+        return put_lines(room, gathered, p);
     }
+    put_refused(room, gathered, number)
+}
+
+// Prints a line for each two junctions s < t of the plan, in rising s, then t; or that the plan is refused. Answers the number of the first line
+// of the refusal table that the plan breaks, or 0.
+pub fn print_listing(p: &[u8]) -> u8
+    ensures { λ v. ⌜ v ≡ refusal (now (p .entry)) ⌝ }
+{
+    let number = plan::check::number(plan::check::check(p));
+    let mut room = io::large_buffer();
+    let gathered = put_listing(&mut room, output::nothing(), p, number);
+    output::finish(&room, gathered);
+    number
 }

@@ -1,14 +1,14 @@
--- `print_belts`: the belts left to print are fewer at each turn.
+-- `put_belts`: the belts left to gather are fewer at each turn. Assumes nothing.
 use Prim.Native.Nat.{_-_}
 use borrow.Author.Needs.{needs}
-use Rattle.listing.proofs.print_belts.Statement.{statement}
-use Rattle.listing.proofs.print_belts.Tie as tie
+use Rattle.listing.proofs.put_belts.Statement.{statement}
+use Rattle.listing.proofs.put_belts.Tie as tie
 
 abbrev Inv-loop : tie.InvT-loop
-Inv-loop route belts k₀ t5 k = Unit {0}
+Inv-loop room₀ route belts now₀ k₀ t8 room now k = Unit {0}
 
 abbrev μ-loop : tie.MeasureT-loop
-μ-loop route belts k₀ t5 k = route .count - k
+μ-loop room₀ route belts now₀ k₀ t8 room now k = route .count - k
 
 loop-holds : tie.Need-loop-holds Inv-loop μ-loop
 loop-holds c = search needs
@@ -19,14 +19,14 @@ mul-belt c = search needs
 array-copy-out-belt : tie.Need-array-copy-out-belt Inv-loop μ-loop
 array-copy-out-belt c = search needs
 
-slice-aggregate-print : tie.Need-slice-aggregate-print Inv-loop μ-loop
-slice-aggregate-print c = search needs
+slice-aggregate-put-number : tie.Need-slice-aggregate-put-number Inv-loop μ-loop
+slice-aggregate-put-number c = search needs
 
-cast-print : tie.Need-cast-print Inv-loop μ-loop
-cast-print c = search needs
+cast-put-number : tie.Need-cast-put-number Inv-loop μ-loop
+cast-put-number c = search needs
 
-print-requires : tie.Need-print-requires Inv-loop μ-loop
-print-requires c κs = search needs
+put-number-requires : tie.Need-put-number-requires Inv-loop μ-loop
+put-number-requires c κs = search needs
 
 add-k : tie.Need-add-k Inv-loop μ-loop
 add-k c = search needs
@@ -40,8 +40,8 @@ loop-again c = search needs
 returns : tie.Need-returns Inv-loop μ-loop
 returns c = search needs
 
-pub print-belts-spec : {M : Type 1} → statement M
-print-belts-spec =
+pub put-belts-spec : {M : Type 1} → statement M
+put-belts-spec =
     tie.close
     (tie.spec
     Inv-loop
@@ -49,9 +49,9 @@ print-belts-spec =
     loop-holds
     mul-belt
     array-copy-out-belt
-    slice-aggregate-print
-    cast-print
-    print-requires
+    slice-aggregate-put-number
+    cast-put-number
+    put-number-requires
     add-k
     loop-less
     loop-again

@@ -1,14 +1,14 @@
--- `print_lines`: the junctions left are fewer at each turn.
-use borrow.Author.Needs.{needs}
+-- `put_lines`: the junctions left are fewer at each turn. Assumes nothing.
 use Prim.Native.Nat.{_-_}
-use Rattle.listing.proofs.print_lines.Statement.{statement}
-use Rattle.listing.proofs.print_lines.Tie as tie
+use borrow.Author.Needs.{needs}
+use Rattle.listing.proofs.put_lines.Statement.{statement}
+use Rattle.listing.proofs.put_lines.Tie as tie
 
 abbrev Inv-loop : tie.InvT-loop
-Inv-loop p last s₀ s = Unit {0}
+Inv-loop room₀ p last now₀ s₀ room now s = Unit {0}
 
 abbrev μ-loop : tie.MeasureT-loop
-μ-loop p last s₀ s = last - s
+μ-loop room₀ p last now₀ s₀ room now s = last - s
 
 junctions-requires : tie.Need-junctions-requires Inv-loop μ-loop
 junctions-requires c κs = search needs
@@ -16,8 +16,8 @@ junctions-requires c κs = search needs
 loop-holds : tie.Need-loop-holds Inv-loop μ-loop
 loop-holds c = search needs
 
-print-from-requires : tie.Need-print-from-requires Inv-loop μ-loop
-print-from-requires c κs = search needs
+put-from-requires : tie.Need-put-from-requires Inv-loop μ-loop
+put-from-requires c κs = search needs
 
 add-s : tie.Need-add-s Inv-loop μ-loop
 add-s c = search needs
@@ -31,15 +31,15 @@ loop-again c = search needs
 returns : tie.Need-returns Inv-loop μ-loop
 returns c = search needs
 
-pub print-lines-spec : {M : Type 1} → statement M
-print-lines-spec =
+pub put-lines-spec : {M : Type 1} → statement M
+put-lines-spec =
     tie.close
     (tie.spec
     Inv-loop
     μ-loop
     junctions-requires
     loop-holds
-    print-from-requires
+    put-from-requires
     add-s
     loop-less
     loop-again

@@ -1,0 +1,2 @@
+-- Laws, each file after those that it rests on.
+pub mod Gathering
