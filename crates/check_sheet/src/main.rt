@@ -1,16 +1,17 @@
 // Checks a route sheet against a depot plan: `check_sheet PLAN S T SHEET` prints `accepted` where the sheet's belts are a permitted route from
 // S to T under its setting and its cost is theirs, or `refused n: ..` with the number of the first line of the refusal table that is broken, and
-// the table's words for it. Where the arguments or a file are not as they should be, standard error says what is wrong and how the program is
-// used, and nothing else is done.
+// the table's words for it. PLAN may be - for standard input. Where the arguments or a file are not as they should be, standard error says what
+// is wrong, and nothing else is done.
 //
 //   usage   how the program is used
 mod usage;
 
 use command::arguments;
+use command::arguments::Request;
 use command::decimal::Number;
 use command::files;
-use command::files::File;
 use command::refusals;
+use command::version;
 use route::check;
 use route::path::Trip;
 
@@ -36,43 +37,45 @@ fn asked() -> Wanted {
 fn print_verdict(p: &[u8], trip: Trip, h: &[u8]) {
     let number = check::number(check::check(p, trip, h));
     if number == 0 {
-        io::write_all(1, b"accepted\n");
+        output::print(b"accepted\n");
         return;
     }
-    io::write_all(1, b"refused ");
-    io::print_decimal(1, number as u64);
-    io::write_all(1, b": ");
-    refusals::print_cause(1, number);
+    let mut room = io::large_buffer();
+    let said = output::put_number(&mut room, output::nothing(), b"refused ", number as u64);
+    let colon = output::put(&mut room, said, b": ");
+    let all = refusals::put_cause(&mut room, colon, number);
+    output::finish(&room, all);
 }
 
-// Checks the sheet of this name against a plan. False where it can't be read.
-fn check_file(p: &[u8], trip: Trip, sheet: &[u8]) -> bool {
+// Checks the sheet of this name against a plan.
+fn check_file(p: &[u8], trip: Trip, sheet: &[u8]) {
     // Larger than any sheet, so that a byte too many is seen.
     let mut h = io::buffer();
-    let File::Has(n) = files::read(sheet, &mut h) else {
-        return false;
-    };
-    print_verdict(p, trip, &h[..n]);
-    true
+    let contents = files::read(sheet, &mut h);
+    let n = contents.size;
+    if contents.read {
+        print_verdict(p, trip, &h[..n]);
+    }
 }
 
-// Checks a sheet against a plan, both by name. False where one can't be read.
-fn check_files(plan: &[u8], trip: Trip, sheet: &[u8]) -> bool {
+// Checks a sheet against a plan, both by name.
+fn check_files(plan: &[u8], trip: Trip, sheet: &[u8]) {
     // Larger than any plan, so that a byte too many is seen.
     let mut p = io::large_buffer();
-    let File::Has(n) = files::read(plan, &mut p) else {
-        return false;
-    };
-    check_file(&p[..n], trip, sheet)
+    let contents = files::read(plan, &mut p);
+    let n = contents.size;
+    if contents.read {
+        check_file(&p[..n], trip, sheet);
+    }
 }
 
-// Does what the arguments ask. False where they are wrong, or a file can't be read.
+// Does what the arguments ask. False where they are wrong.
 fn run() -> bool {
-    if !arguments::some_up_to(4) {
+    if !arguments::at_most(4) {
         return false;
     }
     let mut plan = io::buffer();
-    let n = arguments::word(1, b"PLAN", &mut plan);
+    let n = arguments::input(1, b"PLAN", &mut plan);
     if n == 0 {
         return false;
     }
@@ -80,15 +83,23 @@ fn run() -> bool {
         return false;
     };
     let mut sheet = io::buffer();
-    let m = arguments::word(4, b"SHEET", &mut sheet);
+    let m = arguments::file(4, b"SHEET", &mut sheet);
     if m == 0 {
         return false;
     }
-    check_files(&plan[..n], trip, &sheet[..m])
+    check_files(&plan[..n], trip, &sheet[..m]);
+    true
 }
 
 fn main() {
-    if !run() {
-        usage::print();
+    let request = arguments::requested();
+    match request {
+        Request::Usage => usage::print(),
+        Request::Version => version::print(b"check_sheet"),
+        Request::Work => {
+            if !run() {
+                arguments::hint(b"check_sheet");
+            }
+        }
     }
 }

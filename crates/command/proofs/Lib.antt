@@ -1,3 +1,2 @@
 -- Laws, each file after those that it rests on.
 pub mod Digits
-pub mod Reading

@@ -1,3 +1,3 @@
 pub mod Decimal
-pub mod Files
+pub mod Paths
 pub mod Examples

@@ -1,13 +1,30 @@
 // The words that a program is started with, counted from 1. Which words those are is outside the logic.
 use crate::decimal;
 use crate::decimal::Number;
-use crate::text::warn;
+use output::warn;
 ghost use Rattle.io.specs.Counts.{Counts};
 
-// Says on standard error what is wrong with an argument.
-fn complain(name: &[u8], what: &[u8]) {
-    io::write_all(2, name);
-    warn(what);
+// What a program is asked for by its first word.
+pub enum Request {
+    // -h or --help: how the program is used.
+    Usage,
+    // --version: which program this is.
+    Version,
+    // Anything else: what the program is for.
+    Work,
+}
+
+// What the first word asks for.
+pub fn requested() -> Request {
+    let mut text = io::buffer();
+    let n = os::arg(1, &mut text);
+    if check::same(&text[..n], b"-h") || check::same(&text[..n], b"--help") {
+        return Request::Usage;
+    }
+    if check::same(&text[..n], b"--version") {
+        return Request::Version;
+    }
+    Request::Work
 }
 
 // Puts argument i at the start of the buffer, and answers its length. Where it is missing, empty or longer than the buffer, standard error says
@@ -18,13 +35,55 @@ pub fn word(i: usize, name: &[u8], buf: &mut [u8]) -> usize
     let n = os::arg(i, buf);
     let error = os::errno();
     if error == libc::EINVAL {
-        complain(name, b" is missing");
+        warn(name, b" is missing");
     } else if error != 0 {
-        complain(name, b" is too long");
+        warn(name, b" is too long");
     } else if n == 0 {
-        complain(name, b" is empty");
+        warn(name, b" is empty");
     }
     n
+}
+
+// Whether a word that names a file begins as an option does. Standard error then says how such a file is named.
+fn is_option(word: &[u8]) -> bool {
+    if 1 < word.len() {
+        if word[0] == b'-' {
+            warn(
+                word,
+                b" is no option; write ./ before the name of such a file",
+            );
+            return true;
+        }
+    }
+    false
+}
+
+// The same as `word`, of an argument that names a file. The name - stands for standard input.
+pub fn input(i: usize, name: &[u8], buf: &mut [u8]) -> usize
+    ensures { λ n. ⌜ Counts n (now (buf .exit)) ⌝ }
+{
+    let n = word(i, name, buf);
+    if is_option(&buf[..n]) {
+        return 0;
+    }
+    n
+}
+
+// The same of a file that has to have a name of its own.
+pub fn file(i: usize, name: &[u8], buf: &mut [u8]) -> usize
+    ensures { λ n. ⌜ Counts n (now (buf .exit)) ⌝ }
+{
+    let n = input(i, name, buf);
+    if check::same(&buf[..n], b"-") {
+        warn(name, b" can't be -; it is the name of a file");
+        return 0;
+    }
+    n
+}
+
+// Whether there is an argument i.
+pub fn given(i: usize) -> bool {
+    i < os::arg_count()
 }
 
 // Argument i as a number. Where it is none, standard error says so.
@@ -36,29 +95,34 @@ pub fn number(i: usize, name: &[u8]) -> Number {
     }
     let value = decimal::decimal(&text[..n]);
     if let Number::Wrong = value {
-        complain(name, b" is no number from 0 to 18446744073709551615");
+        warn(name, b" is no number from 0 to 18446744073709551615");
     }
     value
 }
 
 // The same of an argument that may be left out, and then stands for `usual`.
 pub fn number_or(i: usize, name: &[u8], usual: u64) -> Number {
-    if i < os::arg_count() {
+    if given(i) {
         return number(i, name);
     }
     Number::Is(usual)
 }
 
-// Whether the program has arguments, and at most as many as `most`. Where it has more, standard error says so.
-pub fn some_up_to(most: usize) -> bool {
-    // The program's own name is among them.
+// Whether there are no more arguments than these. Where there are, standard error says so.
+pub fn at_most(most: usize) -> bool {
+    // The program's own name is among the words.
     let words = os::arg_count();
-    if words < 2 {
-        return false;
+    if words < 1 {
+        return true;
     }
     if most < words - 1 {
-        warn(b"too many arguments");
+        warn(b"", b"too many arguments");
         return false;
     }
     true
+}
+
+// Says on standard error where to read how the program is used.
+pub fn hint(program: &[u8]) {
+    warn(program, b" --help says how it is used");
 }

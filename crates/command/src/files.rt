@@ -1,72 +1,90 @@
-// Files of bytes, by name. Where the system refuses, standard error says why. Which bytes a file has is outside the logic.
-ghost use Rattle.command.specs.Files.{Within};
+// Files of bytes that are read. Where the system refuses, standard error says why. Which bytes a file has is outside the logic.
+ghost use Rattle.io.specs.Counts.{Counts};
 
-// What was read of a file: how many bytes now stand at the start of the buffer, or that it can't be read.
-pub enum File {
-    Has(usize),
-    Unreadable,
+// What was read of a file: whether it can be read, and how many bytes now stand at the start of the buffer.
+pub struct Contents {
+    pub read: bool,
+    pub size: usize,
+}
+
+// Says on standard error why a file can't be read. The name - stands for standard input.
+fn fail(name: &[u8]) {
+    if check::same(name, b"-") {
+        os::fail(b"standard input");
+    } else {
+        os::fail(name);
+    }
 }
 
 // One read, of as much as there is at hand and room for; no bytes at the end of the input.
-fn read_some(fd: i32, buf: &mut [u8]) -> File
-    ensures { λ v. ⌜ Within v (now (buf .exit)) ⌝ }
+fn read_some(fd: i32, buf: &mut [u8]) -> Contents
+    ensures { λ v. ⌜ Counts (v .size) (now (buf .exit)) ⌝ }
 {
     let got = libc::read(fd, buf);
-    if got < 0 {
-        return File::Unreadable;
+    Contents {
+        read: 0 <= got,
+        size: io::count(got, buf),
     }
-    File::Has(io::count(got, buf))
 }
 
 // Reads until the buffer is full or the input ends.
-fn read_all(fd: i32, buf: &mut [u8]) -> File
-    ensures { λ v. ⌜ Within v (now (buf .exit)) ⌝ }
+fn read_all(fd: i32, buf: &mut [u8]) -> Contents
+    ensures { λ v. ⌜ Counts (v .size) (now (buf .exit)) ⌝ }
 {
     let mut done = 0;
     while done < buf.len() {
-        let File::Has(more) = read_some(fd, &mut buf[done..]) else {
-            return File::Unreadable;
-        };
-        if more == 0 {
+        let more = read_some(fd, &mut buf[done..]);
+        if !more.read {
+            return Contents {
+                read: false,
+                size: done,
+            };
+        }
+        if more.size == 0 {
             break;
         }
-        done += more;
+        done += more.size;
     }
-    File::Has(done)
+    Contents {
+        read: true,
+        size: done,
+    }
 }
 
-// Reads a file into the buffer, as much of it as there is room for.
-pub fn read(path: &[u8], buf: &mut [u8]) -> File
-    ensures { λ v. ⌜ Within v (now (buf .exit)) ⌝ }
-{
-    let fd = os::open_read(path);
-    if fd < 0 {
-        os::fail(path);
-        return File::Unreadable;
+// Opens a file for reading, and answers its descriptor, or a number below 0. The name - stands for standard input, which is open.
+pub fn open(name: &[u8]) -> i32 {
+    if check::same(name, b"-") {
+        return 0;
     }
-    let file = read_all(fd, buf);
-    if let File::Unreadable = file {
-        os::fail(path);
+    let fd = os::open_read(name);
+    if fd < 0 {
+        fail(name);
+    }
+    fd
+}
+
+// Reads what `open` opened into the buffer, as much of it as there is room for, and closes it.
+pub fn read_opened(fd: i32, name: &[u8], buf: &mut [u8]) -> Contents
+    ensures { λ v. ⌜ Counts (v .size) (now (buf .exit)) ⌝ }
+{
+    let contents = read_all(fd, buf);
+    if !contents.read {
+        fail(name);
     }
     libc::close(fd);
-    file
+    contents
 }
 
-// Writes a file of these bytes, in place of what it held, and answers whether all of it is done.
-pub fn write(path: &[u8], bytes: &[u8]) -> bool {
-    let fd = os::open_overwrite(path);
+// Reads a file into the buffer, as much of it as there is room for. The name - stands for standard input.
+pub fn read(name: &[u8], buf: &mut [u8]) -> Contents
+    ensures { λ v. ⌜ Counts (v .size) (now (buf .exit)) ⌝ }
+{
+    let fd = open(name);
     if fd < 0 {
-        os::fail(path);
-        return false;
+        return Contents {
+            read: false,
+            size: 0,
+        };
     }
-    if !io::write_all(fd, bytes) {
-        os::fail(path);
-        libc::close(fd);
-        return false;
-    }
-    if libc::close(fd) < 0 {
-        os::fail(path);
-        return false;
-    }
-    true
+    read_opened(fd, name, buf)
 }

@@ -1,14 +1,20 @@
-// What the programs that take arguments have in common.
+// What the programs have in common.
 //
 //   decimal     the number that a text writes
 //   arguments   the words that a program is started with
-//   files       files of bytes, read and written by name
+//   files       files of bytes that are read
+//   status      which file a descriptor is open on
+//   sheets      the file that a route sheet is written to, so that nothing is lost
+//   paths       names of files, put together and followed along links
 //   refusals    the words of the refusal table
-//   text        lines of text
+//   version     which version of the planner a program is of
 //
 // What the system hands over is outside the logic: the contracts say what is made of the bytes, and not that they are the user's or the file's.
 pub mod arguments;
 pub mod decimal;
 pub mod files;
+mod paths;
 pub mod refusals;
-pub mod text;
+pub mod sheets;
+mod status;
+pub mod version;

@@ -4,18 +4,21 @@
 //   s t none opened                   that no route is permitted, or
 //   s t spent opened                  that as many subproblems were opened as the budget has, and some are left,
 //
-// or `refused n` with the number of the first line of the refusal table that is broken, and the table's words for it on standard error. Where
-// the arguments or a file are not as they should be, standard error says what is wrong and how the program is used, and nothing else is done.
+// or `refused n` with the number of the first line of the refusal table that is broken, and the table's words for it on standard error. PLAN may
+// be - for standard input. SHEET may be free or hold an older sheet, which is replaced by a whole one or not at all; any other file is
+// left alone. Where the arguments or a file are not as they should be, standard error says what is wrong, and nothing else is done.
 //
 //   usage   how the program is used
 mod usage;
 
 use command::arguments;
+use command::arguments::Request;
 use command::decimal::Number;
 use command::files;
-use command::files::File;
 use command::refusals;
-use command::text;
+use command::sheets;
+use command::sheets::Place;
+use command::version;
 use route::path::Trip;
 use search::entry;
 use search::query::Query;
@@ -52,44 +55,55 @@ fn asked() -> Wanted {
     })
 }
 
-// Answers a query: writes the sheet of a route to the file of this name, then prints the line. False where the sheet can't be written.
-fn answer(p: &[u8], query: Query, sheet: &[u8]) -> bool {
+// Answers a query: writes the sheet of a route to the file of this name, where `place` was seen, then prints the line. Where the sheet can't be
+// written nothing is printed.
+fn answer(p: &[u8], query: Query, sheet: &[u8], place: Place) {
     let mut out = [0u8; 3072];
     let answer = entry::search(p, query, &mut out);
     let reply = entry::numbers(answer);
     let size = reply.size;
     if reply.number == 0 {
-        if !files::write(sheet, &out[..size]) {
-            return false;
+        if sheets::write(sheet, &out[..size], place) {
+            listing::print_query(query.trip, answer, &out);
         }
+        return;
     }
     listing::print_query(query.trip, answer, &out);
-    refusals::print_cause(2, reply.number);
-    true
+    refusals::tell_cause(reply.number);
+    sheets::tell_kept(sheet, place);
 }
 
-// Answers a query about the plan of this name. False where a file can't be read or written.
-fn find(plan: &[u8], query: Query, sheet: &[u8]) -> bool {
-    // The sheet would replace the plan. Another name of the same file is not seen.
-    if check::same(plan, sheet) {
-        text::warn(b"PLAN and SHEET are the same file");
-        return false;
-    }
+// Reads the plan that is open, and answers a query about it.
+fn read_and_answer(fd: i32, plan: &[u8], query: Query, sheet: &[u8], place: Place) {
     // Larger than any plan, so that a byte too many is seen.
     let mut p = io::large_buffer();
-    let File::Has(n) = files::read(plan, &mut p) else {
-        return false;
-    };
-    answer(&p[..n], query, sheet)
+    let contents = files::read_opened(fd, plan, &mut p);
+    let n = contents.size;
+    if contents.read {
+        answer(&p[..n], query, sheet, place);
+    }
 }
 
-// Does what the arguments ask. False where they are wrong, or a file can't be read or written.
+// Answers a query about the plan of this name. What stands where the sheet is to go is looked at first, so that no other file is lost.
+fn find(plan: &[u8], query: Query, sheet: &[u8]) {
+    let fd = files::open(plan);
+    if fd < 0 {
+        return;
+    }
+    let place = sheets::look(sheet, fd);
+    if let Place::Taken = place {
+        return;
+    }
+    read_and_answer(fd, plan, query, sheet, place);
+}
+
+// Does what the arguments ask. False where they are wrong.
 fn run() -> bool {
-    if !arguments::some_up_to(7) {
+    if !arguments::at_most(7) {
         return false;
     }
     let mut plan = io::buffer();
-    let n = arguments::word(1, b"PLAN", &mut plan);
+    let n = arguments::input(1, b"PLAN", &mut plan);
     if n == 0 {
         return false;
     }
@@ -97,15 +111,23 @@ fn run() -> bool {
         return false;
     };
     let mut sheet = io::buffer();
-    let m = arguments::word(4, b"SHEET", &mut sheet);
+    let m = arguments::file(4, b"SHEET", &mut sheet);
     if m == 0 {
         return false;
     }
-    find(&plan[..n], query, &sheet[..m])
+    find(&plan[..n], query, &sheet[..m]);
+    true
 }
 
 fn main() {
-    if !run() {
-        usage::print();
+    let request = arguments::requested();
+    match request {
+        Request::Usage => usage::print(),
+        Request::Version => version::print(b"find_route"),
+        Request::Work => {
+            if !run() {
+                arguments::hint(b"find_route");
+            }
+        }
     }
 }

@@ -1,24 +1,28 @@
 // How the program is used, in words.
-use command::text::warn;
 
-// Says on standard error how the program is used.
+// Prints how the program is used.
 pub fn print() {
-    warn(b"usage: find_route PLAN S T SHEET [PICK [ORDER [BUDGET]]]");
-    warn(b"Finds the cheapest permitted route of a depot plan, and writes its sheet.");
-    warn(b"  PLAN    the file that holds the plan");
-    warn(b"  S       the number of the junction where the route begins, from 1");
-    warn(b"  T       the number of the junction where it ends, from 1");
-    warn(b"  SHEET   the file for the sheet: if there is a route, it is written anew");
-    warn(b"  PICK    the belt to branch on: 0 the lowest, 1 the one in most rules,");
-    warn(b"          2 the lowest on the relaxed route; 0 if left out");
-    warn(b"  ORDER   the child to open next: 0 the one that forbids the belt,");
-    warn(b"          1 the one that requires it; 0 if left out");
-    warn(b"  BUDGET  how many subproblems may be opened, from 1; 1000000 if left out");
-    warn(b"Numbers are decimal and below 2^64. Prints one of");
-    warn(b"  s t cost setting opened belts..   a route; its sheet is written");
-    warn(b"  s t none opened                   no route is permitted");
-    warn(b"  s t spent opened                  the budget is spent too early to know");
-    warn(b"  refused n                         line n of the refusal table, whose words");
-    warn(b"                                    go to standard error");
-    warn(b"The exit status says nothing: it is always 0.");
+    output::print(
+        b"usage: find_route PLAN S T SHEET [PICK [ORDER [BUDGET]]]
+Finds the cheapest permitted route of a depot plan, and writes its sheet.
+  PLAN    the file that holds the plan; - is standard input
+  S       the number of the junction where the route begins, from 1
+  T       the number of the junction where it ends, from 1
+  SHEET   the file for the sheet. Only an older sheet is replaced, and only
+          by a whole one: never the plan, nor any other file
+  PICK    the belt to branch on: 0 the lowest, 1 the one in most rules,
+          2 the lowest on the relaxed route; 0 if left out
+  ORDER   the child to open next: 0 the one that forbids the belt,
+          1 the one that requires it; 0 if left out
+  BUDGET  how many subproblems may be opened, from 1; 1000000 if left out
+Numbers are decimal and below 2^64. Prints one of
+  s t cost setting opened belts..   a route; its sheet is written
+  s t none opened                   no route is permitted
+  s t spent opened                  the budget is spent too early to know
+  refused n                         line n of the refusal table, whose words
+                                    go to standard error
+-h or --help prints this, --version the versions of the planner and its kit.
+The exit status says nothing: it is always 0.
+",
+    );
 }

@@ -50,20 +50,32 @@ slice-aggregate-write c = sym (length-take-le _ _ (fits (c .before .before .befo
 write-requires : tie.Need-write-requires
 write-requires c κs = search needs
 
-returns : tie.Need-returns
-returns c = search needs
-
 slice-aggregate-print-query : tie.Need-slice-aggregate-print-query
 slice-aggregate-print-query c = search needs
 
 print-query-requires : tie.Need-print-query-requires
 print-query-requires c κs = search needs
 
-print-cause-requires : tie.Need-print-cause-requires
-print-cause-requires c κs = search needs
+returns : tie.Need-returns
+returns c = search needs
 
 returns-2 : tie.Need-returns-2
 returns-2 c = search needs
+
+slice-aggregate-print-query-2 : tie.Need-slice-aggregate-print-query-2
+slice-aggregate-print-query-2 c = search needs
+
+print-query-requires-2 : tie.Need-print-query-requires-2
+print-query-requires-2 c κs = search needs
+
+tell-cause-requires : tie.Need-tell-cause-requires
+tell-cause-requires c κs = search needs
+
+tell-kept-requires : tie.Need-tell-kept-requires
+tell-kept-requires c κs = search needs
+
+returns-3 : tie.Need-returns-3
+returns-3 c = search needs
 
 pub answer-spec : {M : Type 1} → statement M
 answer-spec =
@@ -75,8 +87,12 @@ answer-spec =
     array-share-prefix-out
     slice-aggregate-write
     write-requires
-    returns
     slice-aggregate-print-query
     print-query-requires
-    print-cause-requires
-    returns-2)
+    returns
+    returns-2
+    slice-aggregate-print-query-2
+    print-query-requires-2
+    tell-cause-requires
+    tell-kept-requires
+    returns-3)

@@ -8,7 +8,6 @@ use lib.ListN.{length}
 use lib.Seq.{length-take-le}
 use borrow.Rule.Slice.PartMut.{mid-len, putMid, same-len-mid}
 use borrow.Author.Needs.{needs}
-use Rattle.command.proofs.Reading.{has-within}
 use Rattle.command.proofs.files.read_all.Statement.{statement}
 use Rattle.command.proofs.files.read_all.Tie as tie
 
@@ -33,17 +32,8 @@ part-read-some-end c = search needs
 read-some-requires : tie.Need-read-some-requires Inv-loop μ-loop
 read-some-requires c κs = search needs
 
-enum-known-more : tie.Need-enum-known-more Inv-loop μ-loop
-enum-known-more c = search needs
-
-enum-told : tie.Need-enum-told Inv-loop μ-loop
-enum-told c = search needs
-
 same-length : tie.Need-same-length Inv-loop μ-loop
 same-length c = search needs
-
-returns : tie.Need-returns Inv-loop μ-loop
-returns c = search needs
 
 -- the part that is lent has the room that is left, and keeps it
 room : (c : tie.After-read-some Inv-loop μ-loop) → length (c .read-some .last .1 .0) ≡ length (c .before .before .before .loop .buf) - c .before .before .before .loop .done
@@ -59,22 +49,19 @@ same c =
     let at = c .before .before .before .loop in
     same-len-mid (at .done) (length (at .buf) - at .done) (at .buf) (c .read-some .last .1 .0) (c .read-some .kept .1 .0)
 
--- what came fits the part
-came : (c : tie.After-more Inv-loop μ-loop) → c .more .given .0 .0 ≤ length (c .before .before .before .before .read-some .last .1 .0)
-came c =
-    let got = c .before .before .before .before in
-    has-within (got .read-some .last .1 .0) (c .more .given .1) (got .read-some .ensures) .0
+returns : tie.Need-returns Inv-loop μ-loop
+returns c = let got = c .before .before .before .before in (omega (arith, got .before .before .before .loop .inv .0, same got), sym (length-take-le _ _ (omega (arith, got .before .before .before .loop .inv .0, same got))))
 
 add-done : tie.Need-add-done Inv-loop μ-loop
-add-done c = omega (arith, came (c .before .before), room (c .before .before .before .before .before .before))
+add-done c = let got = c .before .before .before .before .before .before .before in omega (arith, got .read-some .ensures .0, room got)
 
 loop-less : tie.Need-loop-less Inv-loop μ-loop
 loop-less c = search needs
 
 loop-again : tie.Need-loop-again Inv-loop μ-loop
 loop-again c =
-    let got = c .before .before .before .before .before .before in (
-      omega (arith, came (c .before .before), room got, same got),
+    let got = c .before .before .before .before .before .before .before in (
+      omega (arith, got .read-some .ensures .0, room got, same got),
       same got ∙ got .before .before .before .loop .inv .1,
     )
 
@@ -88,9 +75,7 @@ same-length-3 : tie.Need-same-length-3 Inv-loop μ-loop
 same-length-3 c = search needs
 
 returns-3 : tie.Need-returns-3 Inv-loop μ-loop
-returns-3 c =
-    let got = c .before .before .before .before .before .before in
-    (search needs, sym (length-take-le _ _ (omega (arith, same got))))
+returns-3 c = let got = c .before .before .before .before .before .before in (omega (arith, got .before .before .before .loop .inv .0, same got), sym (length-take-le _ _ (omega (arith, got .before .before .before .loop .inv .0, same got))))
 
 pub read-all-spec : {M : Type 1} → statement M
 read-all-spec =
@@ -103,8 +88,6 @@ read-all-spec =
     part-read-some-start
     part-read-some-end
     read-some-requires
-    enum-known-more
-    enum-told
     same-length
     returns
     add-done

@@ -1,18 +1,18 @@
--- `show_plan::show_leaving` meets its contract: the chain is walked by the laws that an accepted plan promises. Assumes nothing.
+-- `show_plan::put_leaving` meets its contract: the chain is walked by the laws that an accepted plan promises. Assumes nothing.
 use mathlib.Core.Path.{_≡_, sym, ap, _∙_, subst}
 use native.Mathlib.Omega.{arith}
 use lib.ListN.{length}
-use borrow.Author.Needs.{needs}
 use Rattle.plan.specs.Reading.{IsBelt, beltsFrom}
 use Rattle.plan.proofs.Reading.{first-belt-is, next-belt-is, belts-next}
-use Rattle.show_plan.proofs.show_leaving.Statement.{statement}
-use Rattle.show_plan.proofs.show_leaving.Tie as tie
+use borrow.Author.Needs.{needs}
+use Rattle.show_plan.proofs.put_leaving.Statement.{statement}
+use Rattle.show_plan.proofs.put_leaving.Tie as tie
 
 abbrev Inv-loop : tie.InvT-loop
-Inv-loop p places j belt₀ belt = (belt .0 ≡ 0 → ⊥) → IsBelt p (belt .0)
+Inv-loop room₀ p places j now₀ belt₀ room now belt = (belt .0 ≡ 0 → ⊥) → IsBelt p (belt .0)
 
 abbrev μ-loop : tie.MeasureT-loop
-μ-loop p places j belt₀ belt = length (beltsFrom p (belt .0))
+μ-loop room₀ p places j now₀ belt₀ room now belt = length (beltsFrom p (belt .0))
 
 first-belt-requires : tie.Need-first-belt-requires Inv-loop μ-loop
 first-belt-requires c κs = search needs
@@ -23,15 +23,15 @@ loop-holds c =
     let e = c .first-belt .ensures in
     λ d. subst (IsBelt (c .before .before .args .p .now)) (sym e) (first-belt-is (pre .0) _ (pre .1) (pre .2) (λ z. d (e ∙ z)))
 
-show-belt-requires : tie.Need-show-belt-requires Inv-loop μ-loop
-show-belt-requires c κs = let at = c .before .before in (at .before .before .before .pre .0, at .loop .inv (c .if1 .taken))
+put-belt-requires : tie.Need-put-belt-requires Inv-loop μ-loop
+put-belt-requires c κs = let at = c .before .before .before in (at .before .before .before .pre .0, at .loop .inv (c .before .if1 .taken))
 
 next-belt-requires : tie.Need-next-belt-requires Inv-loop μ-loop
-next-belt-requires c κs = let at = c .before .before .before in (at .before .before .before .pre .0, at .loop .inv (c .before .if1 .taken))
+next-belt-requires c κs = let at = c .before .before .before .before in (at .before .before .before .pre .0, at .loop .inv (c .before .before .if1 .taken))
 
 loop-less : tie.Need-loop-less Inv-loop μ-loop
 loop-less c =
-    let turn = c .before .before in
+    let turn = c .before .before .before in
     let at = turn .before .before in
     let p = at .before .before .before .args .p .now in
     let s = ap length (belts-next (at .before .before .before .pre .0) (at .loop .belt .0) (at .loop .inv (turn .if1 .taken))) in
@@ -40,7 +40,7 @@ loop-less c =
 
 loop-again : tie.Need-loop-again Inv-loop μ-loop
 loop-again c =
-    let turn = c .before .before in
+    let turn = c .before .before .before in
     let at = turn .before .before in
     let e = c .next-belt .ensures in
     λ d. subst (IsBelt (at .before .before .before .args .p .now)) (sym e) (next-belt-is (at .before .before .before .pre .0) _ (at .loop .inv (turn .if1 .taken)) (λ z. d (e ∙ z)) .1)
@@ -48,15 +48,15 @@ loop-again c =
 returns : tie.Need-returns Inv-loop μ-loop
 returns c = search needs
 
-pub show-leaving-spec : {M : Type 1} → statement M
-show-leaving-spec =
+pub put-leaving-spec : {M : Type 1} → statement M
+put-leaving-spec =
     tie.close
     (tie.spec
     Inv-loop
     μ-loop
     first-belt-requires
     loop-holds
-    show-belt-requires
+    put-belt-requires
     next-belt-requires
     loop-less
     loop-again

@@ -1,18 +1,18 @@
--- `show_plan::show_belts` meets its contract: it counts through the junctions. Assumes nothing.
+-- `show_plan::put_belts` meets its contract: it counts through the junctions. Assumes nothing.
 use mathlib.Core.Path.{_≡_}
 use native.Mathlib.Omega.{arith}
 use Prim.Native.Nat.{suc, _≤_, _-_}
-use borrow.Author.Needs.{needs}
 use Rattle.plan.specs.Plan.{planOf}
 use Rattle.plan.proofs.Reading.{plan-sizes}
-use Rattle.show_plan.proofs.show_belts.Statement.{statement}
-use Rattle.show_plan.proofs.show_belts.Tie as tie
+use borrow.Author.Needs.{needs}
+use Rattle.show_plan.proofs.put_belts.Statement.{statement}
+use Rattle.show_plan.proofs.put_belts.Tie as tie
 
 abbrev Inv-loop : tie.InvT-loop
-Inv-loop p places last j₀ j = (1 ≤ j) × (last ≡ planOf p .junctions)
+Inv-loop room₀ p places last now₀ j₀ room now j = (1 ≤ j) × (last ≡ planOf p .junctions)
 
 abbrev μ-loop : tie.MeasureT-loop
-μ-loop p places last j₀ j = suc last - j
+μ-loop room₀ p places last now₀ j₀ room now j = suc last - j
 
 named-places-requires : tie.Need-named-places-requires Inv-loop μ-loop
 named-places-requires c κs = search needs
@@ -23,26 +23,26 @@ junctions-requires c κs = search needs
 loop-holds : tie.Need-loop-holds Inv-loop μ-loop
 loop-holds c = (omega arith, c .junctions .ensures)
 
-show-leaving-requires : tie.Need-show-leaving-requires Inv-loop μ-loop
-show-leaving-requires c κs = let at = c .before .before in (at .before .before .before .before .pre, at .loop .inv .0, omega arith)
+put-leaving-requires : tie.Need-put-leaving-requires Inv-loop μ-loop
+put-leaving-requires c κs = let at = c .before .before .before in (at .before .before .before .before .pre, at .loop .inv .0, omega (arith, at .loop .inv .1, c .before .before .loop-test .taken))
 
 add-j : tie.Need-add-j Inv-loop μ-loop
 add-j c =
-    let at = c .before .before .before in
+    let at = c .before .before .before .before in
     let sizes = plan-sizes (at .before .before .before .before .pre) in
-    omega (arith, at .loop .inv .1, c .before .before .loop-test .taken)
+    omega (arith, at .loop .inv .1, c .before .before .before .loop-test .taken)
 
 loop-less : tie.Need-loop-less Inv-loop μ-loop
 loop-less c = search needs
 
 loop-again : tie.Need-loop-again Inv-loop μ-loop
-loop-again c = (omega arith, c .before .before .before .loop .inv .1)
+loop-again c = let at = c .before .before .before .before in (omega arith, at .loop .inv .1)
 
 returns : tie.Need-returns Inv-loop μ-loop
 returns c = search needs
 
-pub show-belts-spec : {M : Type 1} → statement M
-show-belts-spec =
+pub put-belts-spec : {M : Type 1} → statement M
+put-belts-spec =
     tie.close
     (tie.spec
     Inv-loop
@@ -50,7 +50,7 @@ show-belts-spec =
     named-places-requires
     junctions-requires
     loop-holds
-    show-leaving-requires
+    put-leaving-requires
     add-j
     loop-less
     loop-again
