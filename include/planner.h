@@ -1,8 +1,8 @@
 /*
  * The depot route planner: C interface of the static library libplanner.a.
  *
- * A plan and a route sheet are runs of 12-byte records, laid out as the scope
- * paper says (README.md has a worked example). Three functions:
+ * A plan and a route sheet are runs of 12-byte records. docs/FORMAT.md has them
+ * byte by byte, README.md has worked examples. Three functions:
  *
  *   planner_plan     is this a plan?
  *   planner_search   which belts make the cheapest permitted route from s to t?
