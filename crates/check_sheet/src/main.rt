@@ -38,13 +38,9 @@ fn print_verdict(p: &[u8], trip: Trip, h: &[u8]) {
     let number = check::number(check::check(p, trip, h));
     if number == 0 {
         output::print(b"accepted\n");
-        return;
+    } else {
+        refusals::print_refused(number);
     }
-    let mut room = io::large_buffer();
-    let said = output::put_number(&mut room, output::nothing(), b"refused ", number as u64);
-    let colon = output::put(&mut room, said, b": ");
-    let all = refusals::put_cause(&mut room, colon, number);
-    output::finish(&room, all);
 }
 
 // Checks the sheet of this name against a plan.

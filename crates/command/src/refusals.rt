@@ -2,6 +2,7 @@
 use output::Gathered;
 use output::Room;
 use output::put;
+use output::put_number;
 
 // Lines 1 to 7, of the plan.
 fn put_plan_cause(room: &mut Room, gathered: Gathered, number: u8) -> Gathered {
@@ -38,7 +39,7 @@ fn put_plan_cause(room: &mut Room, gathered: Gathered, number: u8) -> Gathered {
 }
 
 // Gathers the cause that has this number in the table, and ends the line. Other numbers than 1 to 14 have none, and nothing is gathered.
-pub fn put_cause(room: &mut Room, gathered: Gathered, number: u8) -> Gathered {
+fn put_cause(room: &mut Room, gathered: Gathered, number: u8) -> Gathered {
     match number {
         8 => put(room, gathered, b"s or t outside 1 to J\n"),
         9 => put(room, gathered, b"pick over 2, order over 1, budget 0\n"),
@@ -57,6 +58,15 @@ pub fn put_cause(room: &mut Room, gathered: Gathered, number: u8) -> Gathered {
         ),
         _ => put_plan_cause(room, gathered, number),
     }
+}
+
+// Prints that something is refused with this number, and the cause.
+pub fn print_refused(number: u8) {
+    let mut room = io::large_buffer();
+    let said = put_number(&mut room, output::nothing(), b"refused ", number as u64);
+    let colon = put(&mut room, said, b": ");
+    let all = put_cause(&mut room, colon, number);
+    output::finish(&room, all);
 }
 
 // Says on standard error which cause has this number in the table.

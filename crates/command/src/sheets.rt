@@ -3,6 +3,7 @@
 // the logic.
 use crate::paths;
 use crate::status;
+use crate::status::Status;
 use output::warn;
 
 // What stands where a sheet is to be written.
@@ -23,33 +24,60 @@ fn begins_as_sheet(fd: i32) -> bool {
 }
 
 // What an open file is.
-fn judge(path: &[u8], fd: i32, plan: i32) -> Place {
+enum Kind {
+    // A sheet, in a file of this mode.
+    Sheet(u32),
+    // The file that the plan is read from.
+    Source,
+    // A folder, a device, a pipe.
+    Irregular,
+    // Another file.
+    Other,
+}
+
+// What an open file is, where `source` is the file that the plan is read from. Nothing is printed while it is open: where standard error was closed,
+// the file may have its number.
+fn kind_of(fd: i32, source: Status) -> Kind {
     let file = status::of(fd);
-    if !file.known {
-        os::fail(path);
-        return Place::Taken;
-    }
-    if status::same(file, status::of(plan)) {
-        warn(path, b": is the same file as PLAN; a plan is not replaced");
-        return Place::Taken;
+    if status::same(file, source) {
+        return Kind::Source;
     }
     if !status::is_regular(file) {
-        warn(
-            path,
-            b": is no regular file; a sheet can't be written there",
-        );
-        return Place::Taken;
+        return Kind::Irregular;
     }
-    if !begins_as_sheet(fd) {
-        warn(path, b": exists and is no route sheet; it is not replaced");
-        return Place::Taken;
+    if begins_as_sheet(fd) {
+        return Kind::Sheet(file.mode);
     }
-    Place::Sheet(file.mode)
+    Kind::Other
+}
+
+// What that means for a sheet that is to be written there. Where it can't be, standard error says why.
+fn judge(path: &[u8], kind: Kind) -> Place {
+    match kind {
+        Kind::Sheet(mode) => Place::Sheet(mode),
+        Kind::Source => {
+            warn(path, b": is the same file as PLAN; a plan is not replaced");
+            Place::Taken
+        }
+        Kind::Irregular => {
+            warn(
+                path,
+                b": is no regular file; a sheet can't be written there",
+            );
+            Place::Taken
+        }
+        Kind::Other => {
+            warn(path, b": exists and is no route sheet; it is not replaced");
+            Place::Taken
+        }
+    }
 }
 
 // What stands at this place. `plan` is the descriptor that the plan is read from, whose file is never replaced. The place itself is not changed,
 // and is read no further than its first field.
 pub fn look(path: &[u8], plan: i32) -> Place {
+    // Before anything is opened, since that may take the number of a plan's descriptor that is closed.
+    let source = status::of(plan);
     let fd = os::open_update(path);
     if fd < 0 {
         if os::errno() == libc::ENOENT {
@@ -58,9 +86,9 @@ pub fn look(path: &[u8], plan: i32) -> Place {
         os::fail(path);
         return Place::Taken;
     }
-    let place = judge(path, fd, plan);
+    let kind = kind_of(fd, source);
     libc::close(fd);
-    place
+    judge(path, kind)
 }
 
 // Says on standard error that an older sheet is there still, where there is one.

@@ -50,7 +50,7 @@ fn ask(fd: i32, mut stat: types::stat) -> Asked {
     }
 }
 
-// The device, the inode and the mode of the file that a descriptor is open on. Where the system can't tell, `errno` says why.
+// The device, the inode and the mode of the file that a descriptor is open on.
 pub fn of(fd: i32) -> Status {
     let asked = ask(fd, blank());
     let stat = asked.stat;
