@@ -1,4 +1,5 @@
--- What only the contracts of private functions cite; nothing that a reader has to believe.
+-- What only the contracts of private functions cite; nothing that a reader has to believe. One definition is more than that: `OnRoute`, of which
+-- the contract of `pick::picked` speaks, too.
 --
 -- Picks, by the places of the named belts:
 --   OnRoute b m r         the Route r is of belts of the plan b, and the mask m has its named ones
