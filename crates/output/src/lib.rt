@@ -45,7 +45,7 @@ pub fn finish(room: &Room, gathered: Gathered) -> bool {
     true
 }
 
-// Writes what is gathered to standard error.
+// Writes what is gathered to standard error. It is for text that fits into the room, since full room goes to standard output.
 pub fn complain(room: &Room, gathered: Gathered) {
     write_first(2, room, gathered.filled);
 }

@@ -1,8 +1,6 @@
 -- `output::put` meets its contract: at each turn what is left of the words gathers what all of them do, and the bytes left are fewer. Assumes nothing.
 use mathlib.Core.Path.{_≡_, refl, sym, _∙_, ap}
-use mathlib.Core.List.{List}
-use Prim.Native.Nat.{ℕ, _-_}
-use native.Mathlib.Omega.{arith}
+use Prim.Native.Nat.{_-_}
 use lib.ListN.{length, drop, drop-of-length-le}
 use borrow.Author.Needs.{needs}
 use Rattle.output.specs.Gathering.{filledAfter, roomAfter}

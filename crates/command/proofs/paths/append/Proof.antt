@@ -1,9 +1,9 @@
 -- `paths::append`: what is filled of the name stays within it, and the bytes left are fewer at each turn. Assumes nothing.
-use mathlib.Core.Path.{_≡_, sym, _∙_}
+use mathlib.Core.Path.{_≡_, sym}
 use mathlib.Core.List.{List}
 use Prim.Native.Nat.{ℕ, _-_, _≤_}
 use native.Mathlib.Omega.{arith}
-use lib.ListN.{length, length-set}
+use lib.ListN.{length}
 use lib.Seq.{length-take-le}
 use Rattle.command.specs.Paths.{Fits}
 use borrow.Author.Needs.{needs}
