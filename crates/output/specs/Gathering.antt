@@ -7,16 +7,20 @@
 --   InDecimal n cs       the bytes cs write the number n in decimal digits, as few as hold it
 --   Gathers room n cs room' n'
 --                        the room and the number of filled bytes afterwards are those after the bytes cs
---   GathersNumber        the same after the bytes cs and the digits of a number
+--   Failed n t t'        whether a write has failed, before (t) and after (t'): a failure stays one, and where n bytes fit into the room
+--                        nothing is written, so nothing can fail
+--   GathersNumber room g cs n room' g'
+--                        both, after the bytes cs and the digits of the number n
 --
--- `digits` and `Fewest` are the input and output library's. Assumes nothing.
-use Prim.Native.Nat.{ℕ, _+_}
+-- `Gathered` is declared by the code (src/lib.rt), `digits` and `Fewest` are the input and output library's. Assumes nothing.
+use Prim.Native.Nat.{ℕ, _+_, _≤_}
 use mathlib.Core.Path.{_≡_}
-use mathlib.Core.Bool.{cond}
+use mathlib.Core.Bool.{Bool, true, cond}
 use mathlib.Core.List.{List, [], _∷_, _++_}
-use lib.ListN.{set}
+use lib.ListN.{length, set}
 use lib.Dec.{ltb}
 use Rattle.io.specs.Digits.{digits, Fewest}
+use Rattle.output.specs.declared.Gathered.{Gathered}
 
 abbrev pub placeOf : ℕ → ℕ
 placeOf n = cond (ltb n 65536) n 0
@@ -37,7 +41,11 @@ pub record InDecimal (n : ℕ) (cs : List ℕ) : Type 0 where
   pub fewest : Fewest 10 1 n count
   pub spelled : cs ≡ digits 10 count n
 
-pub record GathersNumber (room : List ℕ) (filled : ℕ) (cs : List ℕ) (n : ℕ) (room' : List ℕ) (filled' : ℕ) : Type 0 where
+abbrev pub Failed : ℕ → Bool → Bool → Type 0
+Failed n t t' = (n ≤ 65536 → t' ≡ t) × (t ≡ true → t' ≡ true)
+
+pub record GathersNumber (room : List ℕ) (g : Gathered) (cs : List ℕ) (n : ℕ) (room' : List ℕ) (g' : Gathered) : Type 0 where
   pub number : List ℕ
   pub decimal : InDecimal n number
-  pub gathered : Gathers room filled (cs ++ number) room' filled'
+  pub gathered : Gathers room (g .filled) (cs ++ number) room' (g' .filled)
+  pub failing : Failed (g .filled + length (cs ++ number)) (g .failed) (g' .failed)

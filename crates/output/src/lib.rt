@@ -1,9 +1,11 @@
 // Text that programs print. What goes to standard output is gathered in room that is lent, and written in large pieces; lines for standard
 // error go out at once. What stands in the room is proved; what the system makes of a write is outside the logic.
 ghost use mathlib.Core.Path.{_≡_};
-ghost use mathlib.Core.Bool.{false};
+ghost use mathlib.Core.Bool.{true, false};
 ghost use mathlib.Core.List.{[], _∷_};
-ghost use Rattle.output.specs.Gathering.{Gathers, GathersNumber};
+ghost use Prim.Native.Nat.{_+_};
+ghost use lib.ListN.{length};
+ghost use Rattle.output.specs.Gathering.{Gathers, GathersNumber, Failed};
 
 // The room that text is gathered in.
 pub type Room = [u8; 65536];
@@ -34,7 +36,9 @@ fn write_first(fd: i32, bytes: &[u8], n: usize) -> bool {
 
 // Writes what is gathered, and answers whether that or an earlier write has failed. The first failure is told on standard error, and nothing is
 // written after it.
-pub fn finish(room: &Room, gathered: Gathered) -> bool {
+pub fn finish(room: &Room, gathered: Gathered) -> bool
+    ensures { λ v. ⌜ (gathered .failed ≡ true → v ≡ true) ⌝ }
+{
     if gathered.failed {
         return true;
     }
@@ -53,6 +57,7 @@ pub fn complain(room: &Room, gathered: Gathered) {
 // Gathers one byte more. Full room is written first.
 fn put_byte(room: &mut Room, gathered: Gathered, byte: u8) -> Gathered
     ensures { λ v. ⌜ Gathers (now (room .entry)) (gathered .filled) (byte ∷ []) (now (room .exit)) (v .filled) ⌝ }
+    ensures { λ v. ⌜ Failed (gathered .filled + 1) (gathered .failed) (v .failed) ⌝ }
 {
     let at = gathered.filled;
     if at < 65536 {
@@ -73,6 +78,7 @@ fn put_byte(room: &mut Room, gathered: Gathered, byte: u8) -> Gathered
 // Gathers words.
 pub fn put(room: &mut Room, gathered: Gathered, words: &[u8]) -> Gathered
     ensures { λ v. ⌜ Gathers (now (room .entry)) (gathered .filled) (now (words .entry)) (now (room .exit)) (v .filled) ⌝ }
+    ensures { λ v. ⌜ Failed (gathered .filled + length (now (words .entry))) (gathered .failed) (v .failed) ⌝ }
 {
     let mut now = gathered;
     let mut i = 0;
@@ -85,7 +91,7 @@ pub fn put(room: &mut Room, gathered: Gathered, words: &[u8]) -> Gathered
 
 // Gathers words and a number behind them, in decimal digits.
 pub fn put_number(room: &mut Room, gathered: Gathered, words: &[u8], n: u64) -> Gathered
-    ensures { λ v. ⌜ GathersNumber (now (room .entry)) (gathered .filled) (now (words .entry)) n (now (room .exit)) (v .filled) ⌝ }
+    ensures { λ v. ⌜ GathersNumber (now (room .entry)) gathered (now (words .entry)) n (now (room .exit)) v ⌝ }
 {
     let mut text = [0u8; 20];
     let k = io::decimal(n, &mut text);

@@ -2,7 +2,7 @@
 use mathlib.Core.List.{List}
 use Prim.Native.Nat.{ℕ}
 use lib.ListN.{take}
-use Rattle.output.proofs.Gathering.{gathers-both}
+use Rattle.output.proofs.Gathering.{gathers-both, failed-both}
 use borrow.Author.Needs.{needs}
 use Rattle.output.proofs.put_number.Statement.{statement}
 use Rattle.output.proofs.put_number.Tie as tie
@@ -32,7 +32,9 @@ returns c =
       number = number;
       decimal = record { count = spelled .decimal .result; fewest = spelled .decimal .ensures .1 .0; spelled = spelled .decimal .ensures .1 .1 };
       gathered = gathers-both (args .room .now) (first .put .last .0) (c .put2 .last .0) (args .gathered .filled) (first .put .result .filled) (c .put2 .result .filled)
-          (args .words .now) number (first .put .ensures) (c .put2 .ensures);
+          (args .words .now) number (first .put .ensures .0) (c .put2 .ensures .0);
+      failing = failed-both (args .gathered .filled) (first .put .result .filled) (args .words .now) number (args .gathered .failed) (first .put .result .failed) (c .put2 .result .failed)
+          (first .put .ensures .0 .1) (first .put .ensures .1) (c .put2 .ensures .1);
     }
 
 pub put-number-spec : {M : Type 1} → statement M
