@@ -18,7 +18,7 @@ use mathlib.Core.List.{List, [], _∷_, map, List·Memᴰ, List·Memᴰ·head, L
 use borrow.Author.Tests.{eqb-true, eq-eqb}
 use Rattle.plan.specs.Lists.{any}
 use Rattle.plan.proofs.Lists.{test, both, never, untrue, alike, beq-true, beq-refl, eqb-sym, in-any, any-some, in-map}
-use Rattle.route.specs.Lcsp.{Var, graph, free, Lit, ¬ₗ, sameVar, sameLit, Clause, Formula, _∈?_, Consistent, unless, without, lacking, _∣_, _∥_, Satisfies}
+use Rattle.route.specs.Lcsp.{Var, graph, free, Lit, ¬ₗ, sameVar, sameLit, Clause, Formula, _∈?_, Consistent, unless, without, lacking, _given_, _givenAll_, Satisfies}
 use Rattle.route.specs.Claims.{OrderFreeClaim}
 
 -- ---- the equality tests
@@ -115,9 +115,9 @@ in-lacking l {α} (β ∷ Φ) m h = go (l ∈? β) refl (List·Memᴰ·cases-con
 
 pub satisfied-hit : (T : List Lit) (Φ : Formula) → Satisfies T Φ → (α : Clause) → List·Memᴰ α Φ → Hit T α
 satisfied-hit [] Φ h α m = absurd (List·Memᴰ·not-nil (subst (List·Memᴰ α) h m))
-satisfied-hit (l ∷ T) Φ h α m = go (test (l ∈? α)) (satisfied-hit T (Φ ∣ l) h (without (¬ₗ l) α))
+satisfied-hit (l ∷ T) Φ h α m = go (test (l ∈? α)) (satisfied-hit T (Φ given l) h (without (¬ₗ l) α))
   where
-    go : ((l ∈? α) ≡ true) ⊎ ((l ∈? α) ≡ false) → (List·Memᴰ (without (¬ₗ l) α) (Φ ∣ l) → Hit T (without (¬ₗ l) α)) → Hit (l ∷ T) α
+    go : ((l ∈? α) ≡ true) ⊎ ((l ∈? α) ≡ false) → (List·Memᴰ (without (¬ₗ l) α) (Φ given l) → Hit T (without (¬ₗ l) α)) → Hit (l ∷ T) α
     go (inl t) below = (l, set-in l α t, List·Memᴰ·head refl)
     go (inr t) below =
         let k = below (in-map (without (¬ₗ l)) (in-lacking l Φ m t)) in
@@ -187,19 +187,19 @@ module _ (l : Lit) (T : List Lit) where
           ∙ skip (sameLit l m) (l ∈? α) (any (among T) (without (¬ₗ l) α))
       go false e = turn (sameLit l m) (among T m) (l ∈? α) (any (among T) (without (¬ₗ l) α))
 
-  left-more : among T (¬ₗ l) ≡ false → (Φ : Formula) → left (among T) (Φ ∣ l) ≡ left (among (l ∷ T)) Φ
+  left-more : among T (¬ₗ l) ≡ false → (Φ : Formula) → left (among T) (Φ given l) ≡ left (among (l ∷ T)) Φ
   left-more out [] = refl
   left-more out (α ∷ Φ) = go (l ∈? α) (left-more out Φ) ∙ sym (λ i. unless (any-more out α i) (cut-more α i) (left (among (l ∷ T)) Φ))
     where
-      go : (t : Bool) → left (among T) (Φ ∣ l) ≡ left (among (l ∷ T)) Φ
+      go : (t : Bool) → left (among T) (Φ given l) ≡ left (among (l ∷ T)) Φ
           → left (among T) (map (without (¬ₗ l)) (unless t α (lacking l Φ)))
           ≡ unless (t || any (among T) (without (¬ₗ l) α)) (cut (among T) (without (¬ₗ l) α)) (left (among (l ∷ T)) Φ)
       go true e = e
       go false e = ap (unless (any (among T) (without (¬ₗ l) α)) (cut (among T) (without (¬ₗ l) α))) e
 
-left-is : (T : List Lit) (Φ : Formula) → Consistent T → Φ ∥ T ≡ left (among T) Φ
+left-is : (T : List Lit) (Φ : Formula) → Consistent T → Φ givenAll T ≡ left (among T) Φ
 left-is [] Φ c = sym (left-none Φ)
-left-is (l ∷ T) Φ c = left-is T (Φ ∣ l) (λ m x y. c m (List·Memᴰ·tail x) (List·Memᴰ·tail y)) ∙ left-more l T out Φ
+left-is (l ∷ T) Φ c = left-is T (Φ given l) (λ m x y. c m (List·Memᴰ·tail x) (List·Memᴰ·tail y)) ∙ left-more l T out Φ
   where
     out : among T (¬ₗ l) ≡ false
     out = not-in (¬ₗ l) T (λ k. c l (List·Memᴰ·head refl) (List·Memᴰ·tail k))

@@ -49,7 +49,7 @@ use Rattle.plan.specs.Lists.{mem}
 use Rattle.plan.specs.Plan.{Belt, planOf, namesOf, named}
 use Rattle.plan.specs.Claims.{Unbroken, FirstIn}
 use Rattle.plan.specs.Reading.{Accepted, Bytes}
-use Rattle.route.specs.Lcsp.{Var, Lit, Formula, IsAssignment, _∥_, Satisfies, Arc, IsInstance, weightOf, FeasibleBy, Feasible}
+use Rattle.route.specs.Lcsp.{Var, Lit, Formula, IsAssignment, _givenAll_, Satisfies, Arc, IsInstance, weightOf, FeasibleBy, Feasible}
 use Rattle.plan.specs.declared.read.Literal.{Literal}
 use Rattle.route.specs.declared.path.Trip.{Trip}
 use Rattle.route.specs.declared.sheet.Sheet.{Sheet}
@@ -66,7 +66,7 @@ use Rattle.route.specs.Values.{idsOf, packed, Known, routeIn, sheetIn, b
 
 abbrev pub OrderFreeClaim : Type 0
 OrderFreeClaim = (X : List Var) (T U : List Lit) (Φ : Formula) → IsAssignment X T
-    → ((l : Lit) → List·Memᴰ l T ↔ List·Memᴰ l U) → Φ ∥ T ≡ Φ ∥ U
+    → ((l : Lit) → List·Memᴰ l T ↔ List·Memᴰ l U) → Φ givenAll T ≡ Φ givenAll U
 
 abbrev pub InstanceClaim : Type 0
 InstanceClaim = (b : List ℕ) → Accepted b → (s t : ℕ) → 1 ≤ s → s ≤ planOf b .junctions → 1 ≤ t → t ≤ planOf b .junctions

@@ -13,7 +13,7 @@ use Rattle.plan.specs.Records.{recordOf, rowOf, fits, linksAt, links}
 use Rattle.plan.specs.Plan.{Plan, planOf, named, namesOf}
 use Rattle.plan.specs.Refusals.{broken1, broken2, broken3, broken4, broken5, broken6, broken7}
 use Rattle.plan.specs.Examples.{planP}
-use Rattle.route.specs.Lcsp.{_∥_}
+use Rattle.route.specs.Lcsp.{_givenAll_}
 use Rattle.route.specs.Routes.{before, routes, beltsByName}
 use Rattle.route.specs.Permission.{passes, lowest}
 use Rattle.route.specs.Subproblems.{Subproblem, relaxed}
@@ -57,11 +57,11 @@ unfolding planP planOf
 P-4-6 = refl
 
 -- conditioning by the joint assignment of belt 5 and setting 0 leaves nothing; that of belts 4 and 6 leaves the empty clause
-P-5-leaves : instanceOf (planOf planP) 1 3 .formula ∥ joint (planOf planP) (map arcOf (beltsByName (planOf planP) (5 ∷ []))) 0 ≡ []
+P-5-leaves : instanceOf (planOf planP) 1 3 .formula givenAll joint (planOf planP) (map arcOf (beltsByName (planOf planP) (5 ∷ []))) 0 ≡ []
 unfolding planP planOf
 P-5-leaves = refl
 
-P-4-6-leaves : instanceOf (planOf planP) 1 3 .formula ∥ joint (planOf planP) (map arcOf (beltsByName (planOf planP) (4 ∷ 6 ∷ []))) 1 ≡ [] ∷ []
+P-4-6-leaves : instanceOf (planOf planP) 1 3 .formula givenAll joint (planOf planP) (map arcOf (beltsByName (planOf planP) (4 ∷ 6 ∷ []))) 1 ≡ [] ∷ []
 unfolding planP planOf
 P-4-6-leaves = refl
 

@@ -7,8 +7,8 @@
 --   l ∈? α             l is in the set α, as a Boolean: it rests on sameLit, and that on sameVar
 --   IsAssignment X T   T is a set of literals over X without a contradiction (Consistent)
 --   IsComplete X T     T assigns every variable of X, true or false
---   Φ ∣ l              (2): conditioning on a literal; Φ ∥ T: on an assignment, one literal after the other
---   Satisfies T Φ      nothing is left of Φ ∥ T
+--   Φ given l          (2), written Φ | l there: conditioning on a literal; Φ givenAll T: on an assignment, one literal after the other
+--   Satisfies T Φ      nothing is left of Φ givenAll T
 --   Arc                an arc: its number, where it leaves (tail) and leads (head), its weight, a natural number
 --   Instance           nodes and arcs of the graph, the free variables, the formula, s and t. The bijection ρ from arcs to graph
 --                      variables is `graph` on the arcs' numbers (arcVar)
@@ -22,8 +22,10 @@
 --   Feasible I p       some T makes it so: p is one of P_{s,t}(Φ)
 --   Solves I p         what the problem asks for: a feasible path of minimal cost
 --
--- Left out, since Definition 2.1 does not use them: unassigned variables, unsatisfiable and contradicted formulas.
--- That Φ ∥ T does not depend on the order of T is a law (proofs/Condition.antt). Assumes nothing.
+-- Left out, since Definition 2.1 does not use them: unassigned variables, that an assignment satisfies a single clause, and formulas that are
+-- unsatisfiable or contradicted. Two arcs with the same ends are two arcs, told apart by their numbers. Weights are natural numbers, where the
+-- document has non-negative ones.
+-- That Φ givenAll T does not depend on the order of T is a law (proofs/Condition.antt). Assumes nothing.
 use mathlib.Core.Path.{_≡_}
 use Prim.Native.Nat.{ℕ, _+_, _≤_}
 use mathlib.Core.Bool.{Bool, true, false, not, _&&_, _||_, Bool·beq}
@@ -31,7 +33,7 @@ use mathlib.Core.List.{List, [], _∷_, _++_, map, List·Memᴰ}
 use mathlib.Core.Logic.{_↔_, _⊎_}
 use lib.Dec.{eqb}
 
-infixl 60 _∣_ _∥_
+infixl 60 _given_ _givenAll_
 infixl 50 _∈?_
 -- ---- 2.1: propositional logic
 
@@ -98,15 +100,15 @@ lacking l [] = []
 lacking l (α ∷ Φ) = unless (l ∈? α) α (lacking l Φ)
 
 -- (2): "all clauses containing l are deleted and ¬l is removed from the remaining ones"
-abbrev pub _∣_ : Formula → Lit → Formula
-Φ ∣ l = map (without (¬ₗ l)) (lacking l Φ)
+abbrev pub _given_ : Formula → Lit → Formula
+Φ given l = map (without (¬ₗ l)) (lacking l Φ)
 
-abbrev pub _∥_ : Formula → List Lit → Formula
-Φ ∥ [] = Φ
-Φ ∥ (l ∷ T) = (Φ ∣ l) ∥ T
+abbrev pub _givenAll_ : Formula → List Lit → Formula
+Φ givenAll [] = Φ
+Φ givenAll (l ∷ T) = (Φ given l) givenAll T
 
 abbrev pub Satisfies : List Lit → Formula → Type 0
-Satisfies T Φ = Φ ∥ T ≡ []
+Satisfies T Φ = Φ givenAll T ≡ []
 
 -- ---- 2.2: the problem
 
