@@ -19,7 +19,7 @@ use Rattle.plan.specs.declared.read.BeltId.{BeltId}
 use Rattle.plan.specs.declared.read.Literal.{Literal}
 use Rattle.plan.specs.declared.read.Literal.the-variants.{OfBelt, OfMode}
 use Rattle.plan.specs.Lists.{mem, run}
-use Rattle.plan.specs.Plan.{Belt, planOf, namesOf}
+use Rattle.plan.specs.Plan.{Belt, planOf, namesOf, named}
 use Rattle.plan.specs.Reading.{Accepted, IsBelt}
 use Rattle.plan.proofs.Lists.{any-cong, all-cong}
 use Rattle.plan.proofs.Naming.{names-back, named-rises}
@@ -47,7 +47,7 @@ met-cong rules x y h σ = all-cong (met x σ) (met y σ) rules (λ rule m. any-c
     go rule m (OfMode n w) k = refl
 
 lowest-cong : (rules : List (List Literal)) (m : ℕ) (x y : ℕ → Bool) → AgreeOn rules x y → lowest rules m x ≡ lowest rules m y
-lowest-cong rules m x y h = find-cong (allMet rules x) (allMet rules y) (run 0 (2 ^ m)) (met-cong rules x y h)
+lowest-cong rules m x y h = find-cong (allMet rules x) (allMet rules y) (run 0 (2 ^ m)) (λ σ i. met-cong rules x y h σ)
 
 pub permitted-same : (rules : List (List Literal)) (m : ℕ) (x y : List Belt) → AgreeOn rules (passes x) (passes y)
     → lowest rules m (passes x) ≡ lowest rules m (passes y)
@@ -71,11 +71,15 @@ module _ {b : List ℕ} (ok : Accepted b) where
   pub mask-named : (es : List ℕ) → ((e : ℕ) → List·Memᴰ e es → e < 2048) → OfNamed b (maskOf b es)
   mask-named es low = gathered-low (named-rises b) refl es low
 
-  -- the mask tells of each belt that a rule names what the route does
+  -- the mask tells of each named belt what the route does
+  pub mask-belt : (r : Route) → Known b r → (e : ℕ) → List·Memᴰ e (named (planOf b))
+      → hasBelt b (maskOf b (idsOf r)) e ≡ passes (routeIn b r) e
+  mask-belt r k e i =
+      gathered-from (named-rises b) refl (idsOf r) (known-low r k) e i ∙ sym (passes-named (idsOf r) (k .belts) e)
+
+  -- and so of each belt that a rule names
   mask-agrees : (r : Route) → Known b r → AgreeOn (planOf b .rules) (hasBelt b (maskOf b (idsOf r))) (passes (routeIn b r))
-  mask-agrees r k rule m e w i =
-      gathered-from (named-rises b) refl (idsOf r) (known-low r k) (e .0) (literal-named ok m e w i)
-      ∙ sym (passes-named (idsOf r) (k .belts) (e .0))
+  mask-agrees r k rule m e w i = mask-belt r k (e .0) (literal-named ok m e w i)
 
   pub met-mask : (r : Route) → Known b r → (σ : ℕ)
       → allMet (planOf b .rules) (hasBelt b (maskOf b (idsOf r))) σ ≡ allMet (planOf b .rules) (passes (routeIn b r)) σ

@@ -3,7 +3,7 @@
 --   First f i n o     o is the first of the n numbers from i on that pass, or none, and none of them pass
 --   find-run          `find` over a run finds it; find-is, find-none: so does a number, or none, that is it
 --   find-run-split    the first of n + m numbers is the first of the first n of them, or else that of the other m (otherwise)
---   find-cong         two tests that agree find the same
+--   find-cong         two tests that agree on the elements of a list find the same in it
 --   halves, weight, all-modes
 --                     a mode counts half of what it and the lower ones make up; 16 bits do not cut what a mode counts; ten modes make up
 --                     1,024
@@ -17,7 +17,7 @@ use mathlib.Core.Logic.{_⊎_, inl, inr}
 use mathlib.Core.Bool.{Bool, true, false}
 use mathlib.Core.Option.{Option, none, some}
 use Prim.Native.Nat.{ℕ, zero, suc, _+_, _*_, _-_, _%_, _^_, _≤_, _<_}
-use mathlib.Core.List.{List, [], _∷_, _++_}
+use mathlib.Core.List.{List, [], _∷_, _++_, List·Memᴰ, List·Memᴰ·head, List·Memᴰ·tail}
 use native.Mathlib.Omega.{arith}
 use native.Mathlib.Nat.{eq-or-lt-of-le, pow-suc}
 use native.Mathlib.Numerals.{sub-one}
@@ -30,9 +30,9 @@ use Rattle.route.specs.Permission.{passes, allMet, Permitted, orElse, ot
 use Rattle.route.specs.Claims.{LowestClaim}
 use Rattle.route.proofs.Bits.{shifted}
 
-pub find-cong : {A : Type 0} (f g : A → Bool) (xs : List A) → ((a : A) → f a ≡ g a) → find f xs ≡ find g xs
+pub find-cong : {A : Type 0} (f g : A → Bool) (xs : List A) → ((a : A) → List·Memᴰ a xs → f a ≡ g a) → find f xs ≡ find g xs
 find-cong f g [] h = refl
-find-cong f g (x ∷ xs) h = λ i. orElse (h x i) x (find-cong f g xs h i)
+find-cong f g (x ∷ xs) h = λ i. orElse (h x (List·Memᴰ·head refl) i) x (find-cong f g xs (λ a m. h a (List·Memᴰ·tail m)) i)
 
 -- ---- what a mode counts in a setting
 

@@ -154,6 +154,6 @@ module _ {b : List ℕ} (ok : Accepted b) (bytes : Bytes b) (q : Trip) (ends : w
     held-back room size =
         (λ i. firstBelts (h .summary i .count) (keptOf (h .within i) room)) ∙ claim (h .route) (h .is) .back room size ∙ sym (ap heldAs (h .is))
 
-pub best-better : (b : List ℕ) (q : Query) (f : Fixings) (r : Route) (t : Bool) → judgedIn b q f r t ≡ Best → t ≡ true
+pub best-better : (b : List ℕ) (q : Query) (f : Fixings) (on : ℕ → Bool) (t : Bool) → judgedIn b q f on t ≡ Best → t ≡ true
 best-better b q f r true h = refl
 best-better b q f r false h = let z : _≡_ {A = ℕ} 0 1 = cc in absurd (omega arith)

@@ -242,23 +242,23 @@ from-else : (es : List ℕ) (o w : Option ℕ) → Among es o → From es w → 
 from-else es none w h k = k
 from-else es (some e) w h k = h
 
-from-pick : (k : ℕ) (p : Plan) (x : Subproblem) (r : List Belt) → From (unfixed p x) (pickOf k p x r)
-from-pick zero p x r = from-head (unfixed p x)
-from-pick (suc zero) p x r = from-highest (ruleCount p) (unfixed p x)
-from-pick (suc (suc k)) p x r =
-    from-else (unfixed p x) (find (passes r) (unfixed p x)) (head? (unfixed p x)) (among-find (passes r) (unfixed p x)) (from-head (unfixed p x))
+from-pick : (k : ℕ) (p : Plan) (x : Subproblem) (on : ℕ → Bool) → From (unfixed p x) (pickOf k p x on)
+from-pick zero p x on = from-head (unfixed p x)
+from-pick (suc zero) p x on = from-highest (ruleCount p) (unfixed p x)
+from-pick (suc (suc k)) p x on =
+    from-else (unfixed p x) (find on (unfixed p x)) (head? (unfixed p x)) (among-find on (unfixed p x)) (from-head (unfixed p x))
 
-pub picks-unfixed : (k : ℕ) (p : Plan) (x : Subproblem) (r : List Belt) (e : ℕ) → pickOf k p x r ≡ some e → List·Memᴰ e (unfixed p x)
-picks-unfixed k p x r e h = subst (From (unfixed p x)) h (from-pick k p x r)
+pub picks-unfixed : (k : ℕ) (p : Plan) (x : Subproblem) (on : ℕ → Bool) (e : ℕ) → pickOf k p x on ≡ some e → List·Memᴰ e (unfixed p x)
+picks-unfixed k p x on e h = subst (From (unfixed p x)) h (from-pick k p x on)
 
-pub picks-one : (k : ℕ) (p : Plan) (x : Subproblem) (r : List Belt) → pickOf k p x r ≡ none → unfixed p x ≡ []
-picks-one k p x r h = subst (From (unfixed p x)) h (from-pick k p x r)
+pub picks-one : (k : ℕ) (p : Plan) (x : Subproblem) (on : ℕ → Bool) → pickOf k p x on ≡ none → unfixed p x ≡ []
+picks-one k p x on h = subst (From (unfixed p x)) h (from-pick k p x on)
 
 pub explores : (b : List ℕ) → Accepted b → (s t pick order : ℕ) → Explores (problemOf (planOf b) s t pick order)
 explores b ok s t pick order = record {
   bytes = b;
   accepted = ok;
   belts-are = refl;
-  picks = picks-unfixed pick (planOf b);
-  picks-one = picks-one pick (planOf b);
+  picks = λ x r. picks-unfixed pick (planOf b) x (passes r);
+  picks-one = λ x r. picks-one pick (planOf b) x (passes r);
 }

@@ -224,7 +224,7 @@ module _ (q : Problem) (ex : Explores q) where
 
   sound-next : (st : State) (x : Subproblem) (xs : List Subproblem) → st .waiting ≡ x ∷ xs → Sound q st → Sound q (openNext q st x xs)
   sound-next st x xs e sound =
-      let n = q .choose (x ∷ xs) in
+      let n = q .choose st in
       sound-considered (takeAt n x xs .0) (takenOff st (takeAt n x xs .1)) (taken-off n st x xs e sound)
       (relaxed (q .plan) (q .s) (q .t) (takeAt n x xs .0)) refl
 

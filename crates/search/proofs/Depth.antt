@@ -69,12 +69,12 @@ module _ (q : Problem) (picks : Picks q) (x : Subproblem) (st : State) (deep : D
 
 -- ---- the sequence
 
-module _ (q : Problem) (picks : Picks q) (newest : (xs : List Subproblem) → q .choose xs ≡ 0) where
+module _ (q : Problem) (picks : Picks q) (newest : (st : State) → q .choose st ≡ 0) where
   deep-next : (st : State) (x : Subproblem) (xs : List Subproblem) → st .waiting ≡ x ∷ xs → Deep (q .plan) (st .waiting)
       → Deep (q .plan) (openNext q st x xs .waiting)
   deep-next st x xs w deep =
       let (room, older) = subst (Deep (q .plan)) w deep in
-      subst (λ (k : ℕ). Deep (q .plan) (openTaken q st (takeAt k x xs) .waiting)) (sym (newest (x ∷ xs)))
+      subst (λ (k : ℕ). Deep (q .plan) (openTaken q st (takeAt k x xs) .waiting)) (sym (newest st))
       (deep-considered q picks x (takenOff st xs) older room (relaxed (q .plan) (q .s) (q .t) x))
 
   deep-at : (n : ℕ) (st : State) → stateAt q n ≡ some st → Deep (q .plan) (st .waiting)

@@ -38,6 +38,7 @@ use Rattle.plan.proofs.Places.{at-place, place-in}
 use Rattle.plan.proofs.Reading.{named-few}
 use Rattle.route.specs.declared.path.Route.{Route}
 use Rattle.route.specs.declared.relax.Fixings.{Fixings}
+use Rattle.route.specs.Permission.{passes}
 use Rattle.route.specs.Subproblems.{Subproblem}
 use Rattle.route.specs.Values.{idsOf, packed, Known, routeIn, inMask, withPlace, fixedIn, OfNamed, subproblemIn}
 use Rattle.route.proofs.Fixed.{fixed-mem, with-belt, with-low, nothing-has}
@@ -277,7 +278,7 @@ module _ {b : List ℕ} (ok : Accepted b) (v : Search) (size : length (v .waitin
 
   module _ (known : Known b r) (rest-zero : r ≡ packed (idsOf r)) where
     abbrev picked : Option ℕ
-    picked = pickOf (q .pick) (planOf b) subproblem (routeIn b r)
+    picked = pickOf (q .pick) (planOf b) subproblem (passes (routeIn b r))
 
     tested-settles : (o : Option ℕ)
         → Settles b v f q r (tested (problemIn b q) subproblem (stateIn b v) (routeIn b r) o) (testedAs (pickedPlace (named (planOf b)) picked) o)
@@ -285,11 +286,11 @@ module _ {b : List ℕ} (ok : Accepted b) (v : Search) (size : length (v .waitin
     tested-settles none =
         let p = planOf b in
         let few : length (stateIn b v .waiting) ≤ fixedCount p subproblem = omega (arith, waiting-length b (v .waiting) (v .count), taken .room) in
-        branch-settles picked (picks-unfixed (q .pick) p subproblem (routeIn b r))
-        (deep-tested (problemIn b q) (picks-unfixed (q .pick) p) subproblem (stateIn b v) (taken .valid .deep) few (routeIn b r) none)
+        branch-settles picked (picks-unfixed (q .pick) p subproblem (passes (routeIn b r)))
+        (deep-tested (problemIn b q) (λ x l. picks-unfixed (q .pick) p x (passes l)) subproblem (stateIn b v) (taken .valid .deep) few (routeIn b r) none)
 
     pub compared-settles : (t : Bool)
-        → Settles b v f q r (compared (problemIn b q) subproblem (stateIn b v) (routeIn b r) t) (judgedIn b q f r t)
+        → Settles b v f q r (compared (problemIn b q) subproblem (stateIn b v) (routeIn b r) t) (judgedIn b q f (passes (routeIn b r)) t)
     compared-settles true = tested-settles (settingOf (planOf b) (routeIn b r))
     compared-settles false = record { room = tt; state = refl; valid = taken .valid }
 

@@ -1,7 +1,9 @@
 -- A step and a run, on what a Search stands for.
 --
 -- Step 3:
+--   OnRoute b m r         the Route r is of belts of the plan b, and the mask m has its named ones
 --   answered              a relaxed route, as the code holds it: it is of belts of the plan, the mask has its named ones, and what is not in use is 0
+--   judged-same           the mask of a Route tells the rule test and the picks what the Route does
 --   judged-settles        what is done with a subproblem that was taken is what steps 3 to 6 do
 -- A whole step:
 --   step-empty, step-spent, step-goes
@@ -18,19 +20,22 @@ use mathlib.Core.Path.{_≡_, refl, sym, _∙_, ap, subst}
 use mathlib.Core.Bool.{Bool, true, false}
 use mathlib.Core.Option.{Option, none, some}
 use Prim.Native.Nat.{ℕ, zero, suc, _+_, _-_, _≤_, _<_}
-use mathlib.Core.List.{List}
+use mathlib.Core.List.{List, List·Memᴰ}
 use native.Mathlib.Omega.{arith}
 use lib.ListN.{length}
 use lib.Dec.{eqb}
 use borrow.Author.Tests.{eq-eqb, ne-eqb}
-use Rattle.plan.specs.Plan.{Belt, planOf, namesOf}
+use Rattle.plan.specs.Plan.{Belt, planOf, namesOf, named}
 use Rattle.plan.specs.Reading.{Accepted, Bytes}
+use Rattle.route.specs.declared.path.Route.{Route}
 use Rattle.route.specs.declared.relax.Fixings.{Fixings}
 use Rattle.route.specs.Routes.{wrongEnds}
+use Rattle.route.specs.Permission.{passes, lowest}
 use Rattle.route.specs.Subproblems.{Subproblem, relaxed}
-use Rattle.route.specs.Values.{idsOf, packed, routeIn, routeOf, subproblemIn, maskOf}
+use Rattle.route.specs.Values.{idsOf, packed, Known, routeIn, routeOf, subproblemIn, maskOf, hasBelt}
 use Rattle.route.proofs.ByName.{ends-junctions}
 use Rattle.route.proofs.Answered.{answer-claim}
+use Rattle.route.proofs.Holding.{mask-belt, lowest-mask}
 use Rattle.search.specs.declared.query.Query.{Query}
 use Rattle.search.specs.declared.state.Search.{Search}
 use Rattle.search.specs.declared.state.Stepped.{Stepped}
@@ -38,12 +43,18 @@ use Rattle.search.specs.declared.state.Ending.{Ending}
 use Rattle.search.specs.declared.state.Ending.the-variants.{GoesOn, Found, Nothing, Spent}
 use Rattle.search.specs.Search.{State, Turn, improves, considered, atEnd, budgeted, stepOf, step, runs, run}
 use Rattle.search.specs.Answers.{problemIn}
-use Rattle.search.specs.Values.{firstSearch, waitingIn, bestIn, stateIn, turnIn, Valid, newestOf, relaxedIn}
-use Rattle.search.specs.Inner.{OnRoute, endedAs, heldAs, betterIn, judgedIn}
+use Rattle.search.specs.Values.{pickedPlace, firstSearch, waitingIn, bestIn, stateIn, turnIn, Valid, newestOf, relaxedIn}
+use Rattle.search.specs.Inner.{endedAs, testedAs, heldAs, betterIn, judgedIn}
 use Rattle.search.proofs.Steps.{run-goes, run-ends}
+use Rattle.search.proofs.Picks.{pick-cong}
 use Rattle.search.proofs.Holding.{Taken, Settles, compared-settles, popped, newest-waits, first-state, first-valid}
 
 -- ---- the answer
+
+-- the Route r is of belts of the plan b, and the mask m has its named ones
+pub record OnRoute (b : List ℕ) (m : ℕ) (r : Route) : Type 0 where
+  pub known : Known b r
+  pub mask : m ≡ maskOf b (idsOf r)
 
 pub answered : {b : List ℕ} → Accepted b → Bytes b → (s t : ℕ) → wrongEnds (planOf b) s t ≡ false → (x : Subproblem) (r : List Belt)
     → relaxed (planOf b) s t x ≡ some r
@@ -55,14 +66,29 @@ answered {b} ok bytes s t ends x r e =
 
 -- ---- steps 3 to 6
 
+module _ {b : List ℕ} (ok : Accepted b) (q : Query) (f : Fixings) where
+  -- the mask of a Route tells the rule test and the picks what the Route does
+  pub judged-same : (m : ℕ) (r : Route) (t : Bool) → (t ≡ true → OnRoute b m r)
+      → judgedIn b q f (hasBelt b m) t ≡ judgedIn b q f (passes (routeIn b r)) t
+  judged-same m r false on = refl
+  judged-same m r true on =
+      let there = on refl in
+      let p = planOf b in
+      let named-same : (e : ℕ) → List·Memᴰ e (named p) → hasBelt b m e ≡ passes (routeIn b r) e =
+      λ e i. ap (λ (k : ℕ). hasBelt b k e) (there .mask) ∙ mask-belt ok r (there .known) e i in
+      let setting = ap (λ (k : ℕ). lowest (p .rules) (p .modes) (hasBelt b k)) (there .mask) ∙ lowest-mask ok r (there .known) (p .modes) in
+      let picked = pick-cong (q .pick) p (subproblemIn b f) (hasBelt b m) (passes (routeIn b r)) named-same in
+      λ i. testedAs (pickedPlace (named p) (picked i)) (setting i)
+
 module _ {b : List ℕ} (ok : Accepted b) (bytes : Bytes b) (v : Search) (size : length (v .waiting) ≡ 49) (f : Fixings) (taken : Taken b v f) (q : Query)
     (ends : wrongEnds (planOf b) (q .trip .s) (q .trip .t) ≡ false) where
   pub judged-settles : (o : Option (List Belt)) → relaxedIn b (q .trip) f ≡ o
-      → Settles b v f q (heldAs o) (considered (problemIn b q) (subproblemIn b f) (stateIn b v) o) (judgedIn b q f (heldAs o) (betterIn b o (v .found) (v .best)))
+      → Settles b v f q (heldAs o) (considered (problemIn b q) (subproblemIn b f) (stateIn b v) o)
+      (judgedIn b q f (passes (routeIn b (heldAs o))) (betterIn b o (v .found) (v .best)))
   judged-settles none e = record { room = tt; state = refl; valid = taken .valid }
   judged-settles (some r) e =
       let (on, rest-zero, is) = answered ok bytes (q .trip .s) (q .trip .t) ends (subproblemIn b f) r e in
-      let by : List Belt → Type 0 = λ l. Settles b v f q (routeOf r) (considered (problemIn b q) (subproblemIn b f) (stateIn b v) (some l)) (judgedIn b q f (routeOf r) (improves l (bestIn b (v .found) (v .best)))) in
+      let by : List Belt → Type 0 = λ l. Settles b v f q (routeOf r) (considered (problemIn b q) (subproblemIn b f) (stateIn b v) (some l)) (judgedIn b q f (passes (routeIn b (routeOf r))) (improves l (bestIn b (v .found) (v .best)))) in
       subst by is (compared-settles ok v size f taken q (routeOf r) (on .known) rest-zero (improves (routeIn b (routeOf r)) (bestIn b (v .found) (v .best))))
 
 -- ---- a step

@@ -11,8 +11,8 @@
 --                     a place that was looked for, or else another
 --   picks-lowest, picks-busiest, picks-on
 --                     what each pick gives by places is the place of what it gives by belts
---   route-mask        a known route passes the belts whose places its mask has
---   mask-route        every mask of named belts is that of some belts, so what is said of all these leaves no answer free
+--   mask-at           a mask has the named belt at a place exactly where it has the place
+--   pick-cong         tests that agree on the named belts pick the same
 --
 -- The unfixed belts are those at the unfixed places, in the same order. So whatever is chosen among the ones by their order and their counts
 -- is chosen among the others at the same position: Matched says of two choices that they are none and none, or a belt and its place.
@@ -31,25 +31,22 @@ use lib.Dec.{ltb}
 use borrow.Author.Tests.{lt-ltb, le-ltb}
 use Rattle.plan.specs.declared.named.Place.the-variants.{At, Unnamed}
 use Rattle.plan.specs.Lists.{keep, mem, run, upto}
-use Rattle.plan.specs.Plan.{Belt, Plan, planOf, named, placeOf}
-use Rattle.plan.specs.Reading.{Accepted, IsBelt}
+use Rattle.plan.specs.Plan.{Plan, planOf, named}
 use Rattle.plan.proofs.Lists.{both, keep-in, map-run, upto-in, keep-cong, keep-map}
-use Rattle.plan.proofs.Counts.{keep-first, keep-rest, keep-done, length-keep, count-few}
+use Rattle.plan.proofs.Counts.{keep-first, keep-rest, keep-done}
 use Rattle.plan.proofs.Rising.{Rises}
-use Rattle.plan.proofs.Naming.{named-rises, named-in}
-use Rattle.plan.proofs.Reading.{belt-low, named-few}
-use Rattle.route.specs.declared.path.Route.{Route}
+use Rattle.plan.proofs.Naming.{named-rises}
 use Rattle.route.specs.declared.relax.Fixings.{Fixings}
-use Rattle.route.specs.Permission.{passes, find, orElse, otherwise}
-use Rattle.route.specs.Values.{idsOf, Known, routeIn, inMask, fixedIn, subproblemIn, maskOf, packed, OfNamed}
+use Rattle.route.specs.Permission.{find, orElse, otherwise}
+use Rattle.route.specs.Subproblems.{Subproblem}
+use Rattle.route.specs.Values.{inMask, fixedIn, subproblemIn, hasBelt}
 use Rattle.route.proofs.Bits.{or-set, without-set, lowest-none, lowest-set}
-use Rattle.route.proofs.ByName.{passes-names, known-names, ids-packed}
-use Rattle.route.proofs.Holding.{known-low}
-use Rattle.route.proofs.Fixed.{fixed-mem, masks-equal, gathered-from, gathered-low}
+use Rattle.route.proofs.Lowest.{find-cong}
+use Rattle.route.proofs.Fixed.{fixed-mem}
 use Rattle.search.specs.Branching.{isFixed, unfixed, ruleCount, higher, highest, pickOf}
 use Rattle.search.specs.Values.{countsOf, pickedPlace}
-use Rattle.search.specs.Inner.{unfixedAt, unfixedPlaces, atPlace, countAt, OnRoute}
-use Rattle.search.proofs.Counting.{stands, gathered-at, counts-at}
+use Rattle.search.specs.Inner.{unfixedAt, unfixedPlaces, atPlace, countAt}
+use Rattle.search.proofs.Counting.{stands, counts-at}
 
 -- ---- the first place that is kept and passes
 
@@ -229,12 +226,12 @@ module _ (b : List ℕ) (f : Fixings) where
   matched-lowest : Matched ns (head? (unfixed (planOf b) (subproblemIn b f))) (head? free)
   matched-lowest = subst (λ (es : List ℕ). Matched ns (head? es) (head? free)) (sym free-belts) (matched-head free (free-inside ns f))
 
-  module _ (r : List Belt) where
-    pub picks-lowest : (k : ℕ) → k ≡ 0 → atPlace (head? free) ≡ pickedPlace ns (pickOf k (planOf b) (subproblemIn b f) r)
+  module _ (on : ℕ → Bool) where
+    pub picks-lowest : (k : ℕ) → k ≡ 0 → atPlace (head? free) ≡ pickedPlace ns (pickOf k (planOf b) (subproblemIn b f) on)
     picks-lowest zero h = matched-place rises matched-lowest
     picks-lowest (suc k) h = absurd (omega arith)
 
-    pub picks-busiest : (k : ℕ) → k ≡ 1 → atPlace (highest (countAt (countsOf b .rules)) free) ≡ pickedPlace ns (pickOf k (planOf b) (subproblemIn b f) r)
+    pub picks-busiest : (k : ℕ) → k ≡ 1 → atPlace (highest (countAt (countsOf b .rules)) free) ≡ pickedPlace ns (pickOf k (planOf b) (subproblemIn b f) on)
     picks-busiest zero h = absurd (omega arith)
     picks-busiest (suc zero) h =
         let xs = countsOf b .rules in
@@ -243,56 +240,27 @@ module _ (b : List ℕ) (f : Fixings) where
         (matched-busiest (planOf b) xs free (free-inside ns f) (counts-at b)))
     picks-busiest (suc (suc k)) h = absurd (omega arith)
 
-    -- `on` tells by places what r passes
-    pub picks-on : (k : ℕ) → (k ≡ 0 → ⊥) → (k ≡ 1 → ⊥) → (on : ℕ → Bool) → ((j : ℕ) → j < length ns → passes r (getD ns j 0) ≡ on j)
-        → atPlace (otherwise (find on free) (head? free)) ≡ pickedPlace ns (pickOf k (planOf b) (subproblemIn b f) r)
-    picks-on zero d u on same = absurd (d refl)
-    picks-on (suc zero) d u on same = absurd (u refl)
-    picks-on (suc (suc k)) d u on same =
+    -- `has` tells by places what `on` tells of the named belts
+    pub picks-on : (k : ℕ) → (k ≡ 0 → ⊥) → (k ≡ 1 → ⊥) → (has : ℕ → Bool) → ((j : ℕ) → j < length ns → on (getD ns j 0) ≡ has j)
+        → atPlace (otherwise (find has free) (head? free)) ≡ pickedPlace ns (pickOf k (planOf b) (subproblemIn b f) on)
+    picks-on zero d u has same = absurd (d refl)
+    picks-on (suc zero) d u has same = absurd (u refl)
+    picks-on (suc (suc k)) d u has same =
         matched-place rises
         (matched-else
-        (subst (λ (es : List ℕ). Matched ns (find (passes r) es) (find on free)) (sym free-belts) (matched-find (passes r) on free (free-inside ns f) same))
+        (subst (λ (es : List ℕ). Matched ns (find on es) (find has free)) (sym free-belts) (matched-find on has free (free-inside ns f) same))
         matched-lowest)
 
--- ---- a known route
+  -- the mask m has the belt at a place where it has the place
+  pub mask-at : (m j : ℕ) → j < length ns → hasBelt b m (getD ns j 0) ≡ inMask m (At j)
+  mask-at m j l = ap (inMask m) (stands rises j l .1)
 
-module _ {b : List ℕ} (ok : Accepted b) {r : Route} (known : Known b r) where
-  pub route-mask : (k : ℕ) → k < length (named (planOf b)) → passes (routeIn b r) (getD (named (planOf b)) k 0) ≡ inMask (maskOf b (idsOf r)) (At k)
-  route-mask k l =
-      let e = getD (named (planOf b)) k 0 in
-      passes-names (routeIn b r) e
-      ∙ ap (mem e) (known-names ok r known)
-      ∙ sym (gathered-at (named-rises b) k l refl (idsOf r) (known-low ok r known))
+-- ---- tests that agree on the named belts pick the same
 
--- ---- a mask as belts
-
-pub mask-route : {b : List ℕ} → Accepted b → (m : ℕ) → OfNamed b m → (r : Route) × OnRoute b m r
-mask-route {b} ok m few = (packed es, record { known = record { few = short; belts = belts }; mask = same ∙ sym (ap (maskOf b) ids) })
-  where
-    ns : List ℕ
-    ns = named (planOf b)
-
-    es : List ℕ
-    es = fixedIn ns m
-
-    short : length es ≤ 255
-    short =
-        let has : ℕ → Bool = λ e. inMask m (placeOf ns e) in
-        omega (arith, length-keep has ns, count-few has ns, named-few ok)
-
-    ids : idsOf (packed es) ≡ es
-    ids = ids-packed es short
-
-    one-of : (e : ℕ) → List·Memᴰ e es → List·Memᴰ e ns
-    one-of e i = keep-in (λ (n : ℕ). inMask m (placeOf ns n)) ns i .0
-
-    belts : (e : ℕ) → List·Memᴰ e (idsOf (packed es)) → IsBelt b e
-    belts e i = named-in b e (one-of e (subst (List·Memᴰ e) ids i))
-
-    low : (e : ℕ) → List·Memᴰ e es → e < 2048
-    low e i = belt-low ok e (named-in b e (one-of e i)) .2
-
-    same : m ≡ maskOf b es
-    same =
-        masks-equal (named-rises b) m (maskOf b es) few (gathered-low (named-rises b) refl es low) (λ e i.
-        sym (gathered-from (named-rises b) refl es low e i ∙ fixed-mem ns m e))
+pub pick-cong : (k : ℕ) (p : Plan) (x : Subproblem) (f g : ℕ → Bool) → ((e : ℕ) → List·Memᴰ e (named p) → f e ≡ g e)
+    → pickOf k p x f ≡ pickOf k p x g
+pick-cong zero p x f g h = refl
+pick-cong (suc zero) p x f g h = refl
+pick-cong (suc (suc k)) p x f g h =
+    ap (λ (o : Option ℕ). otherwise o (head? (unfixed p x)))
+    (find-cong f g (unfixed p x) (λ e m. h e (keep-in (λ (n : ℕ). not (isFixed x n)) (named p) m .0)))

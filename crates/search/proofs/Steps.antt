@@ -56,7 +56,7 @@ module _ (q : Problem) (x : Subproblem) (st : State) where
 
 pub opens-one : (q : Problem) (st : State) (x : Subproblem) (xs : List Subproblem) → openNext q st x xs .opened ≡ suc (st .opened)
 opens-one q st x xs =
-    let taken = takeAt (q .choose (x ∷ xs)) x xs in
+    let taken = takeAt (q .choose st) x xs in
     considered-opened q (taken .0) (takenOff st (taken .1)) (relaxed (q .plan) (q .s) (q .t) (taken .0))
 
 -- ---- the sequence

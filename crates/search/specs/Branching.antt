@@ -10,8 +10,9 @@
 --   children o p x e  both, the newer one first: order 0 takes the child that forbids e next, order 1 the one that requires it
 --   ruleCount p e     in how many rules belt e is; a rule that names it twice counts once
 --   highest count es  the one of the belts es with the highest count, the first of equals (higher: the same of two)
---   pickOf k p x r    pick k, of the subproblem x with the relaxed route r: 0 the lowest unfixed named belt, 1 the one in most rules, then the
---                     lowest, 2 the lowest on the relaxed route, else the lowest; none where no named belt is unfixed
+--   pickOf k p x on   pick k, of the subproblem x: 0 the lowest unfixed named belt, 1 the one in most rules, then the lowest, 2 the lowest on
+--                     the relaxed route, else the lowest; none where no named belt is unfixed. Which belts are on the relaxed route is
+--                     told by the test `on`
 --
 -- Picks above 2 and orders above 1 are refused before a search begins (Answers.antt). Assumes nothing.
 use Prim.Native.Nat.{ℕ, zero, suc}
@@ -20,8 +21,8 @@ use mathlib.Core.Option.{Option, none, some}
 use mathlib.Core.List.{List, [], _∷_, head?}
 use lib.Dec.{eqb, ltb}
 use Rattle.plan.specs.Lists.{keep, count, mem}
-use Rattle.plan.specs.Plan.{Belt, Plan, named, inRule}
-use Rattle.route.specs.Permission.{passes, find, otherwise}
+use Rattle.plan.specs.Plan.{Plan, named, inRule}
+use Rattle.route.specs.Permission.{find, otherwise}
 use Rattle.route.specs.Subproblems.{Subproblem}
 
 abbrev pub isFixed : Subproblem → ℕ → Bool
@@ -62,7 +63,7 @@ abbrev pub highest : (ℕ → ℕ) → List ℕ → Option ℕ
 highest count [] = none
 highest count (e ∷ es) = higher count e (highest count es)
 
-abbrev pub pickOf : ℕ → Plan → Subproblem → List Belt → Option ℕ
-pickOf zero p x r = head? (unfixed p x)
-pickOf (suc zero) p x r = highest (ruleCount p) (unfixed p x)
-pickOf (suc (suc k)) p x r = otherwise (find (passes r) (unfixed p x)) (head? (unfixed p x))
+abbrev pub pickOf : ℕ → Plan → Subproblem → (ℕ → Bool) → Option ℕ
+pickOf zero p x on = head? (unfixed p x)
+pickOf (suc zero) p x on = highest (ruleCount p) (unfixed p x)
+pickOf (suc (suc k)) p x on = otherwise (find on (unfixed p x)) (head? (unfixed p x))

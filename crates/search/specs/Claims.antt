@@ -187,7 +187,7 @@ abbrev pub BoundClaim : Type 0
 BoundClaim = (q : Problem) → Explores q → (n : ℕ) → WaitsAt q n → n < 2 ^ (length (named (q .plan)) + 1) - 1
 
 abbrev pub DepthClaim : Type 0
-DepthClaim = (q : Problem) → Explores q → ((xs : List Subproblem) → q .choose xs ≡ 0) → (n : ℕ) (st : State) → stateAt q n ≡ some st
+DepthClaim = (q : Problem) → Explores q → ((st : State) → q .choose st ≡ 0) → (n : ℕ) (st : State) → stateAt q n ≡ some st
     → (length (st .waiting) ≤ length (named (q .plan)) + 1)
     × ((i j : ℕ) → 1 ≤ i → i + j ≡ length (st .waiting) → i - 1 ≤ fixedCount (q .plan) (getD (st .waiting) j free))
 

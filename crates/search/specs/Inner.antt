@@ -1,8 +1,6 @@
--- What only the contracts of private functions cite; nothing that a reader has to believe. One definition is more than that: `OnRoute`, of which
--- the contract of `pick::picked` speaks, too.
+-- What only the contracts of private functions cite; nothing that a reader has to believe.
 --
 -- Picks, by the places of the named belts:
---   OnRoute b m r         the Route r is of belts of the plan b, and the mask m has its named ones
 --   beltsIn rule          the belts in a rule, as often as they are named
 --   withRule xs n m       the counts xs, one more for each of the first n places that the mask m has
 --   unfixedAt f k         the masks f do not fix the belt at place k; unfixedPlaces f n: the first n places where that is so
@@ -15,7 +13,8 @@
 --   testedAs q o          the same where its relaxed route is tested first: o is the setting that works, if one does
 --   heldAs o              the Route that holds the relaxed route o; an empty one where there is none
 --   betterIn b o t r      there is a relaxed route o, and it improves on the best r, where t says whether one is held
---   judgedIn b q f r t    what becomes of the masks f with the relaxed route r, where t says whether that improves on the best
+--   judgedIn b q f on t   what becomes of the masks f, where t says whether there is a relaxed route that improves on the best, and the test `on`
+--                         which belts are on it
 -- Answers:
 --   bestOf b v            what a search that found its best route comes to
 --
@@ -35,7 +34,8 @@ use Rattle.plan.specs.Lists.{counted, keep, upto}
 use Rattle.plan.specs.Plan.{Belt, planOf, named}
 use Rattle.route.specs.declared.path.Route.{Route}
 use Rattle.route.specs.declared.relax.Fixings.{Fixings}
-use Rattle.route.specs.Values.{idsOf, packed, Known, routeIn, routeOf, inMask, withPlace, subproblemIn, maskOf}
+use Rattle.route.specs.Permission.{lowest}
+use Rattle.route.specs.Values.{packed, routeIn, routeOf, inMask, withPlace, subproblemIn}
 use Rattle.search.specs.declared.query.Query.{Query}
 use Rattle.search.specs.declared.state.Search.{Search}
 use Rattle.search.specs.declared.state.Ending.{Ending}
@@ -43,15 +43,11 @@ use Rattle.search.specs.declared.state.Ending.the-variants.{Found, Nothi
 use Rattle.search.specs.declared.state.Judged.{Judged}
 use Rattle.search.specs.declared.state.Judged.the-variants.{Drop, Best, Branch}
 use Rattle.search.specs.Branching.{pickOf}
-use Rattle.search.specs.Search.{settingOf, improves}
+use Rattle.search.specs.Search.{improves}
 use Rattle.search.specs.Answers.{Outcome, bestRoute}
 use Rattle.search.specs.Values.{pickedPlace, bestIn}
 
 -- ---- picks
-
-pub record OnRoute (b : List ℕ) (m : ℕ) (r : Route) : Type 0 where
-  pub known : Known b r
-  pub mask : m ≡ maskOf b (idsOf r)
 
 abbrev pub beltsIn : List Literal → List ℕ
 beltsIn [] = []
@@ -101,10 +97,12 @@ abbrev pub betterIn : List ℕ → Option (List Belt) → Bool → Route → Boo
 betterIn b none t best = false
 betterIn b (some r) t best = improves r (bestIn b t best)
 
-abbrev pub judgedIn : List ℕ → Query → Fixings → Route → Bool → Judged
-judgedIn b q f r false = Drop
-judgedIn b q f r true =
-    testedAs (pickedPlace (named (planOf b)) (pickOf (q .pick) (planOf b) (subproblemIn b f) (routeIn b r))) (settingOf (planOf b) (routeIn b r))
+abbrev pub judgedIn : List ℕ → Query → Fixings → (ℕ → Bool) → Bool → Judged
+judgedIn b q f on false = Drop
+judgedIn b q f on true =
+    testedAs
+    (pickedPlace (named (planOf b)) (pickOf (q .pick) (planOf b) (subproblemIn b f) on))
+    (lowest (planOf b .rules) (planOf b .modes) on)
 
 -- ---- answers
 

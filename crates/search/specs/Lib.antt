@@ -1,4 +1,4 @@
--- In the order in which to read them. `Inner` is for the contracts of private functions, and `OnRoute` in it for that of `pick::picked`.
+-- In the order in which to read them. `Inner` is for the contracts of private functions alone.
 pub mod Branching
 pub mod Search
 pub mod Answers

@@ -35,6 +35,11 @@ use Rattle.search.specs.declared.state.Ending.{Ending}
 use Rattle.search.specs.declared.state.Ending.the-variants.{GoesOn, Found, Nothing, Spent}
 use Rattle.search.specs.Branching.{children, pickOf}
 
+pub record State : Type 0 where
+  pub waiting : List Subproblem
+  pub opened : ℕ
+  pub best : Option (List Belt)
+
 pub record Problem : Type 0 where
   pub plan : Plan
   pub s : ℕ
@@ -43,12 +48,7 @@ pub record Problem : Type 0 where
   -- the belt picked, of a subproblem and its relaxed route; none where no named belt is unfixed
   pub pick : Subproblem → List Belt → Option ℕ
   -- the place of the subproblem that is taken next, counted from the newest
-  pub choose : List Subproblem → ℕ
-
-pub record State : Type 0 where
-  pub waiting : List Subproblem
-  pub opened : ℕ
-  pub best : Option (List Belt)
+  pub choose : State → ℕ
 
 abbrev pub free : Subproblem
 free = record { required = []; forbidden = [] }
@@ -103,7 +103,7 @@ abbrev pub openTaken : Problem → State → Subproblem × List Subproblem → S
 openTaken q st taken = considered q (taken .0) (takenOff st (taken .1)) (relaxed (q .plan) (q .s) (q .t) (taken .0))
 
 abbrev pub openNext : Problem → State → Subproblem → List Subproblem → State
-openNext q st x xs = openTaken q st (takeAt (q .choose (x ∷ xs)) x xs)
+openNext q st x xs = openTaken q st (takeAt (q .choose st) x xs)
 
 -- ---- without a budget
 
@@ -157,8 +157,8 @@ run q budget = runs q budget (suc budget) begun
 
 -- ---- the search of a query
 
-abbrev pub newest : List Subproblem → ℕ
-newest xs = 0
+abbrev pub newest : State → ℕ
+newest st = 0
 
 abbrev pub problemOf : Plan → ℕ → ℕ → ℕ → ℕ → Problem
-problemOf p s t pick order = record { plan = p; s = s; t = t; order = order; pick = pickOf pick p; choose = newest }
+problemOf p s t pick order = record { plan = p; s = s; t = t; order = order; pick = λ (x : Subproblem) (r : List Belt). pickOf pick p x (passes r); choose = newest }

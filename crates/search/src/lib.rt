@@ -6,7 +6,7 @@
 //   run     the search from its beginning to its ending
 //   entry   the planner's answer to a query, for any bytes and any numbers
 pub mod entry;
-pub mod pick;
+mod pick;
 pub mod query;
-pub mod run;
+mod run;
 pub mod state;

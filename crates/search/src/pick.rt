@@ -13,12 +13,11 @@ ghost use lib.ListN.{length, getD};
 ghost use Rattle.plan.specs.Plan.{planOf, named, ruleAt};
 ghost use Rattle.plan.specs.Reading.{Accepted, IsRule};
 ghost use Rattle.plan.specs.declared.named.Place.the-variants.{At};
-ghost use Rattle.route.specs.declared.path.Route.{Route};
 ghost use Rattle.route.specs.Permission.{find, otherwise};
-ghost use Rattle.route.specs.Values.{routeIn, inMask, OfNamed, subproblemIn, namedPlaces, gatheredIn};
+ghost use Rattle.route.specs.Values.{inMask, subproblemIn, namedPlaces, gatheredIn, hasBelt};
 ghost use Rattle.search.specs.Branching.{highest, pickOf};
 ghost use Rattle.search.specs.Values.{countsOf, pickedPlace};
-ghost use Rattle.search.specs.Inner.{OnRoute, beltsIn, withRule, unfixedPlaces, atPlace, countAt};
+ghost use Rattle.search.specs.Inner.{beltsIn, withRule, unfixedPlaces, atPlace, countAt};
 
 // What the picks go by beside a subproblem and its relaxed route: how many named belts there are, and in how many rules each of them is.
 pub struct Counts {
@@ -145,10 +144,11 @@ fn lowest_on(fixings: Fixings, count: usize, mask: u64) -> Place
 }
 
 // The place of the belt picked, of a subproblem and its relaxed route; Place::Unnamed where no named belt is unfixed. Of the route only its named
-// belts matter, which are handed over as a mask; every mask of named belts is that of some belts.
+// belts matter, which are handed over as a mask.
 pub fn picked(p: &[u8], counts: Counts, pick: u64, fixings: Fixings, mask: u64) -> Place
-    requires { ⌜ Accepted (now p) × (counts ≡ countsOf (now p)) × OfNamed (now p) mask ⌝ }
-    ensures { λ v. ⌜ ((route : Route) → OnRoute (now (p .entry)) mask route → v ≡ pickedPlace (named (planOf (now (p .entry)))) (pickOf pick (planOf (now (p .entry))) (subproblemIn (now (p .entry)) fixings) (routeIn (now (p .entry)) route))) ⌝ }
+    requires { ⌜ Accepted (now p)
+        × (counts ≡ countsOf (now p)) ⌝ }
+    ensures { λ v. ⌜ v ≡ pickedPlace (named (planOf (now (p .entry)))) (pickOf pick (planOf (now (p .entry))) (subproblemIn (now (p .entry)) fixings) (hasBelt (now (p .entry)) mask)) ⌝ }
 {
     if pick == 0 {
         return lowest(fixings, counts.named);

@@ -17,10 +17,9 @@ ghost use Prim.Native.Nat.{_≤_, _<_};
 ghost use lib.ListN.{length, replicate};
 ghost use Rattle.plan.specs.declared.named.Place.the-variants.{At};
 ghost use Rattle.plan.specs.Reading.{Accepted};
-ghost use Rattle.route.specs.declared.path.Route.{Route};
-ghost use Rattle.route.specs.Values.{OfNamed, Clauses};
+ghost use Rattle.route.specs.Values.{OfNamed, hasBelt, Clauses};
 ghost use Rattle.search.specs.Values.{countsOf, turnIn, Valid, boundIn, firstSearch, noFixings, Ready, stepIn, keptIn};
-ghost use Rattle.search.specs.Inner.{OnRoute, endedAs, childAt, judgedIn};
+ghost use Rattle.search.specs.Inner.{endedAs, childAt, judgedIn};
 
 // A search: the subproblems that wait are the first `count` of the array, the newest last; how many have been opened; and the best route
 // so far, if one is found. What is not in use is 0. It is handed on by value, and holds nothing that follows from the rest of it.
@@ -113,8 +112,11 @@ fn judge(
     mask: u64,
     better: bool,
 ) -> Judged
-    requires { ⌜ Accepted (now p) × Clauses (now p) (now clauses) × (counts ≡ countsOf (now p)) × (better ≡ true → OfNamed (now p) mask) ⌝ }
-    ensures { λ v. ⌜ ((route : Route) → (better ≡ true → OnRoute (now (p .entry)) mask route) → v ≡ judgedIn (now (p .entry)) query fixings route better) ⌝ }
+    requires { ⌜ Accepted (now p)
+        × Clauses (now p) (now clauses)
+        × (counts ≡ countsOf (now p))
+        × (better ≡ true → OfNamed (now p) mask) ⌝ }
+    ensures { λ v. ⌜ v ≡ judgedIn (now (p .entry)) query fixings (hasBelt (now (p .entry)) mask) better ⌝ }
 {
     if !better {
         return Judged::Drop;

@@ -1,5 +1,5 @@
 -- `pick::picked` meets its contract: what is picked by places is picked by belts (Picks). Assumes nothing.
-use mathlib.Core.Path.{_≡_, sym, _∙_, ap}
+use mathlib.Core.Path.{_≡_, _∙_, ap}
 use Prim.Native.Nat.{ℕ, _≤_}
 use mathlib.Core.Bool.{Bool}
 use mathlib.Core.List.{head?}
@@ -9,11 +9,11 @@ use Rattle.plan.specs.declared.named.Place.the-variants.{At}
 use Rattle.plan.specs.Plan.{planOf, named}
 use Rattle.plan.proofs.Reading.{named-few}
 use Rattle.route.specs.Permission.{find, otherwise}
-use Rattle.route.specs.Values.{routeIn, inMask}
+use Rattle.route.specs.Values.{inMask, hasBelt}
 use Rattle.search.specs.declared.pick.Counts.{Counts}
 use Rattle.search.specs.Branching.{highest}
 use Rattle.search.specs.Inner.{unfixedPlaces, atPlace, countAt}
-use Rattle.search.proofs.Picks.{picks-lowest, picks-busiest, picks-on, route-mask}
+use Rattle.search.proofs.Picks.{picks-lowest, picks-busiest, picks-on, mask-at}
 use Rattle.search.proofs.pick.picked.Statement.{statement}
 use Rattle.search.proofs.pick.picked.Tie as tie
 
@@ -28,39 +28,39 @@ lowest-requires : tie.Need-lowest-requires
 lowest-requires c κs = few (c .before .before)
 
 returns : tie.Need-returns
-returns c route on =
+returns c =
     let start = c .before .before .before in
     let a = start .args in
     let p = a .p .now in
     c .lowest .ensures
     ∙ ap (λ (n : ℕ). atPlace (head? (unfixedPlaces (a .fixings) n))) (size start)
-    ∙ picks-lowest p (a .fixings) (routeIn p route) (a .pick) (c .before .if1 .taken)
+    ∙ picks-lowest p (a .fixings) (hasBelt p (a .mask)) (a .pick) (c .before .if1 .taken)
 
 busiest-requires : tie.Need-busiest-requires
 busiest-requires c κs = few (c .before .before .before)
 
 returns-2 : tie.Need-returns-2
-returns-2 c route on =
+returns-2 c =
     let start = c .before .before .before .before in
     let a = start .args in
     let p = a .p .now in
     c .busiest .ensures
     ∙ ap (λ (v : Counts). atPlace (highest (countAt (v .rules)) (unfixedPlaces (a .fixings) (v .named)))) (start .pre .1)
-    ∙ picks-busiest p (a .fixings) (routeIn p route) (a .pick) (c .before .if2 .taken)
+    ∙ picks-busiest p (a .fixings) (hasBelt p (a .mask)) (a .pick) (c .before .if2 .taken)
 
 lowest-on-requires : tie.Need-lowest-on-requires
 lowest-on-requires c κs = few (c .before .before .before)
 
 returns-3 : tie.Need-returns-3
-returns-3 c route on =
+returns-3 c =
     let start = c .before .before .before .before in
     let a = start .args in
     let p = a .p .now in
     let has : ℕ → Bool = λ k. inMask (a .mask) (At k) in
     c .lowest-on .ensures
     ∙ ap (λ (n : ℕ). atPlace (otherwise (find has (unfixedPlaces (a .fixings) n)) (head? (unfixedPlaces (a .fixings) n)))) (size start)
-    ∙ picks-on p (a .fixings) (routeIn p route) (a .pick) (c .before .before .if1 .left) (c .before .if2 .left) has
-    (λ k l. route-mask (start .pre .0) (on .known) k l ∙ sym (ap (λ (m : ℕ). inMask m (At k)) (on .mask)))
+    ∙ picks-on p (a .fixings) (hasBelt p (a .mask)) (a .pick) (c .before .before .if1 .left) (c .before .if2 .left) has
+    (mask-at p (a .fixings) (a .mask))
 
 pub picked-spec : {M : Type 1} → statement M
 picked-spec =

@@ -17,8 +17,9 @@ use Rattle.route.specs.declared.path.Route.{Route}
 use Rattle.route.specs.declared.relax.Fixings.{Fixings}
 use Rattle.route.specs.declared.relax.Summary.{Summary}
 use Rattle.route.specs.Routes.{cost, costLimit, before}
+use Rattle.route.specs.Permission.{passes}
 use Rattle.route.specs.Subproblems.{relaxed}
-use Rattle.route.specs.Values.{idsOf, Known, routeIn, OfNamed, subproblemIn, atMost, keptOf, firstBelts}
+use Rattle.route.specs.Values.{idsOf, Known, routeIn, OfNamed, subproblemIn, hasBelt, atMost, keptOf, firstBelts}
 use Rattle.route.proofs.Bounded.{kept-size}
 use Rattle.route.proofs.Holding.{known-low, mask-named}
 use Rattle.search.specs.declared.state.Search.{Search}
@@ -29,9 +30,9 @@ use Rattle.search.specs.declared.state.Judged.the-variants.{Best}
 use Rattle.search.specs.Search.{considered}
 use Rattle.search.specs.Answers.{problemIn}
 use Rattle.search.specs.Values.{noFixings, stateIn, turnIn, boundIn, Valid, stepIn, newestOf, relaxedIn, keptBy, keptIn}
-use Rattle.search.specs.Inner.{OnRoute, endedAs, heldAs, betterIn, judgedIn}
+use Rattle.search.specs.Inner.{endedAs, heldAs, betterIn, judgedIn}
 use Rattle.search.proofs.Holding.{places, settledTo, Room, Taken, Settles, popped, count-few, popped-taken}
-use Rattle.search.proofs.Opening.{answered, judged-settles, step-empty, step-spent, step-goes}
+use Rattle.search.proofs.Opening.{OnRoute, answered, judged-same, judged-settles, step-empty, step-spent, step-goes}
 use Rattle.search.proofs.Bounds.{bound-low, Held, Tells, tells, held-few, held-back, best-better}
 use Rattle.search.proofs.state.Search.step.Statement.{statement}
 use Rattle.search.proofs.state.Search.step.Tie as tie
@@ -258,6 +259,10 @@ goes c = met (c .before)
 abbrev route : tie.After-judge → Route
 route c = heldAs (answer (goes c))
 
+-- where its relaxed route was worked out
+abbrev summarized : tie.After-judge → tie.After-relaxed-route
+summarized c = c .before .before .before
+
 -- the Search once that is done
 abbrev settled : tie.After-judge → Judged → Search
 settled c j = settledTo (newestOf (now (goes c))) (start (goes c) .args .query .order) (route c) (popped (now (goes c))) j
@@ -275,7 +280,9 @@ settles c =
     let size = length-set (now from .waiting) (now from .count - 1) noFixings ∙ places (now from) (start from .good .0 .1 .1 .0 .1 .0 .1) in
     let state = considered (problemIn (args .p .now) (args .query)) (subproblemIn (args .p .now) one) (stateIn (args .p .now) (popped (now from)))
     (relaxed (planOf (args .p .now)) (args .query .trip .s) (args .query .trip .t) (subproblemIn (args .p .now) one)) in
-    let is = c .judge .ensures (route c) (better-on (c .before)) ∙ ap (judgedIn (args .p .now) (args .query) one (route c)) (better-is (c .before)) in
+    let on = passes (routeIn (args .p .now) (route c)) in
+    let same = judged-same (ready .accepted) (args .query) one (summarized c .relaxed-route .result .named) (route c) (c .before .if3 .better) (better-on (c .before)) in
+    let is = c .judge .ensures ∙ same ∙ ap (judgedIn (args .p .now) (args .query) one on) (better-is (c .before)) in
     subst (Settles (args .p .now) (popped (now from)) one (args .query) (route c) state) (sym is)
     (judged-settles (ready .accepted) (bytes from) (popped (now from)) size one (taken from) (args .query) (ready .junctions) (answer from) refl)
 
@@ -299,14 +306,12 @@ done c w k e bound =
     )
 
 -- it becomes the best
-abbrev summarized : tie.After-judge → tie.After-relaxed-route
-summarized c = c .before .before .before
-
 best-held : (c : tie.After-judge) → c .judge .result ≡ Best → Is-held (summarized c)
 best-held c e =
     let args = start (goes c) .args in
     let better =
-    best-better (args .p .now) (args .query) (newestOf (now (goes c))) (route c) (c .before .if3 .better) (sym (c .judge .ensures (route c) (better-on (c .before))) ∙ e) in
+    best-better (args .p .now) (args .query) (newestOf (now (goes c))) (hasBelt (args .p .now) (summarized c .relaxed-route .result .named))
+    (c .before .if3 .better) (sym (c .judge .ensures) ∙ e) in
     told (summarized c) .better (sym (better-is (c .before)) ∙ better)
 
 of-belts-requires-2 : tie.Need-of-belts-requires-2
