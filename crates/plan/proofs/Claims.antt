@@ -1,8 +1,9 @@
 -- The claims of specs/Claims.antt, proved. Assumes nothing.
 use Rattle.plan.specs.Refusals.{planLines, refusal}
-use Rattle.plan.specs.Claims.{FirstClaim, LimitsClaim}
+use Rattle.plan.specs.Claims.{FirstClaim, LimitsClaim, DistinctClaim, NonzeroClaim}
 use Rattle.plan.proofs.First.{first-exactly}
 use Rattle.plan.proofs.Limits.{limits-accepted, accepted-limits}
+use Rattle.plan.proofs.Numbers.{distinct, nonzero}
 
 -- the number is n exactly when n is that of the first broken line, or 0 where none is broken
 pub first-claim : FirstClaim
@@ -12,3 +13,11 @@ first-claim b n = first-exactly planLines b n
 -- nothing is refused exactly when the published limits hold
 pub limits-claim : LimitsClaim
 limits-claim b = (limits-accepted b, accepted-limits b)
+
+-- two refusals with the same number are the same
+pub distinct-claim : DistinctClaim
+distinct-claim r s e = distinct r s e
+
+-- no refusal has the number 0
+pub nonzero-claim : NonzeroClaim
+nonzero-claim r e = nonzero r e

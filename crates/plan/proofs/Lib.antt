@@ -1,4 +1,4 @@
--- Laws, each file after those that it rests on. The layers above go by Reading, Naming, Places and Arcs; the claims are proved in Claims.
+-- Laws, each file after those that it rests on. The layers above go by Reading, Naming, Places, Arcs and Numbers; the claims are proved in Claims.
 pub mod Lists
 pub mod Counts
 pub mod Rising
@@ -14,6 +14,7 @@ pub mod Places
 pub mod First
 pub mod Accepted
 pub mod Limits
+pub mod Numbers
 pub mod Claims
 pub mod Reading
 pub mod Arcs

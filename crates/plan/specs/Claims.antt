@@ -5,14 +5,17 @@
 --   FirstIn ls a n    n is the number of the first line of ls that a breaks
 --   FirstClaim        the number is n exactly when n is that of the first broken line, and 0 exactly when none is broken
 --   LimitsClaim       nothing is refused exactly when the published limits hold
+--   DistinctClaim     two cases of the code's refusals with the same number are the same case
+--   NonzeroClaim      no case has the number 0, which says that nothing is refused
 --
--- Both are about ALL lists of bytes. Assumes nothing.
+-- The first two are about ALL lists of bytes, the others about all 14 lines of the table. Assumes nothing.
 use mathlib.Core.Path.{_≡_}
 use mathlib.Core.Bool.{true, false}
 use mathlib.Core.Logic.{_⊎_, _↔_}
 use Prim.Native.Nat.{ℕ}
 use mathlib.Core.List.{List, _∷_, _++_, List·Memᴰ}
-use Rattle.plan.specs.Refusals.{Line, planLines, refusal}
+use Rattle.plan.specs.declared.refusal.Refusal.{Refusal}
+use Rattle.plan.specs.Refusals.{Line, planLines, refusal, refusalNumber}
 use Rattle.plan.specs.Limits.{Limits}
 
 abbrev pub Unbroken : {A : Type 0} → List (Line A) → A → Type 0
@@ -32,3 +35,9 @@ FirstClaim = (b : List ℕ) (n : ℕ) → (refusal b ≡ n) ↔ (((n ≡ 0) × U
 
 abbrev pub LimitsClaim : Type 0
 LimitsClaim = (b : List ℕ) → Limits b ↔ (refusal b ≡ 0)
+
+abbrev pub DistinctClaim : Type 0
+DistinctClaim = (r s : Refusal) → refusalNumber r ≡ refusalNumber s → r ≡ s
+
+abbrev pub NonzeroClaim : Type 0
+NonzeroClaim = (r : Refusal) → refusalNumber r ≡ 0 → ⊥

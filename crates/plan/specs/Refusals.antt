@@ -11,7 +11,8 @@
 --   planLines                lines 1 to 7, in the order in which they count
 --   firstBroken ls a         the number of the first line of ls that a breaks, or 0
 --   refusal b                that of planLines: "the lower number wins over the whole plan"
---   numberOf v               the paper's number for each case of the check's answer, 0 where it is accepted
+--   refusalNumber r          the paper's number for each case of the code's refusals, of all 14 lines (src/refusal.rt)
+--   numberOf v               that of the check's answer, 0 where it is accepted
 --
 -- A sentence means what the paper says where the lines before it are unbroken; elsewhere it decides nothing.
 -- Not here: the same limits in the paper's positive words (Limits.antt). Assumes nothing.
@@ -21,7 +22,9 @@ use mathlib.Core.List.{List, [], _∷_}
 use lib.ListN.{length}
 use lib.Dec.{eqb, leb, ltb}
 use Rattle.plan.specs.declared.check.Verdict.{Verdict}
-use Rattle.plan.specs.declared.check.Verdict.the-variants.{Accepted, WrongSize, WrongHeader, WrongRecord, WrongChain, BackwardBelt, WrongLiteral, ManyNamed}
+use Rattle.plan.specs.declared.check.Verdict.the-variants.{Accepted, Refused}
+use Rattle.plan.specs.declared.refusal.Refusal.{Refusal}
+use Rattle.plan.specs.declared.refusal.Refusal.the-variants.{WrongSize, WrongHeader, WrongRecord, WrongChain, BackwardBelt, WrongLiteral, ManyNamed, WrongEnds, WrongQuery, ShortBuffer, WrongSheet, NotARoute, WrongCost, UnmetRule}
 use Rattle.plan.specs.Lists.{any, count, mem, upto, within}
 use Rattle.plan.specs.Records.{field, kind, junctions, modes, records, fits, Link, links, chain}
 use Rattle.plan.specs.Plan.{planOf, named}
@@ -116,12 +119,24 @@ planLines =
 unfoldable pub refusal : List ℕ → ℕ
 refusal b = firstBroken planLines b
 
+-- ---- what the code answers, in the paper's numbers
+
+abbrev pub refusalNumber : Refusal → ℕ
+refusalNumber WrongSize = 1
+refusalNumber WrongHeader = 2
+refusalNumber WrongRecord = 3
+refusalNumber WrongChain = 4
+refusalNumber BackwardBelt = 5
+refusalNumber WrongLiteral = 6
+refusalNumber ManyNamed = 7
+refusalNumber WrongEnds = 8
+refusalNumber WrongQuery = 9
+refusalNumber ShortBuffer = 10
+refusalNumber WrongSheet = 11
+refusalNumber NotARoute = 12
+refusalNumber WrongCost = 13
+refusalNumber UnmetRule = 14
+
 abbrev pub numberOf : Verdict → ℕ
 numberOf Accepted = 0
-numberOf WrongSize = 1
-numberOf WrongHeader = 2
-numberOf WrongRecord = 3
-numberOf WrongChain = 4
-numberOf BackwardBelt = 5
-numberOf WrongLiteral = 6
-numberOf ManyNamed = 7
+numberOf (Refused r) = refusalNumber r

@@ -1,5 +1,6 @@
 // Depot plans: any bytes are refused with the paper's number or are an accepted plan, whose parts can then be read.
 //
+//   refusal   the lines of the refusal table
 //   record   fields of 12-byte records
 //   table    what each kind of record holds in its unused and ranged fields
 //   check    the check of a plan, out of lines 1 to 7 of the refusal table:
@@ -19,4 +20,5 @@ pub mod named;
 mod notes;
 pub mod read;
 pub mod record;
+pub mod refusal;
 mod table;

@@ -8,7 +8,7 @@
 --   routeOn k           the belts that the sheet names
 --   checkLines          lines 1 to 8 and 11 to 14, in the order in which they count
 --   sheetRefusal k      the number of the first broken one, or 0
---   sheetNumber v       the paper's number for each case of the check's answer, 0 where it is accepted
+--   sheetNumber v       the paper's number of the check's answer, 0 where it is accepted
 --
 -- Assumes nothing.
 use Prim.Native.Nat.{ℕ, _^_}
@@ -17,9 +17,9 @@ use mathlib.Core.List.{List, [], _∷_, _++_, map}
 use lib.Dec.{eqb, ltb}
 use Rattle.plan.specs.Lists.{all, mem}
 use Rattle.plan.specs.Plan.{Belt, planOf, namesOf}
-use Rattle.plan.specs.Refusals.{Line, planLines, firstBroken}
+use Rattle.plan.specs.Refusals.{Line, planLines, firstBroken, refusalNumber}
 use Rattle.route.specs.declared.check.SheetVerdict.{SheetVerdict}
-use Rattle.route.specs.declared.check.SheetVerdict.the-variants.{Accepted, WrongSize, WrongHeader, WrongRecord, WrongChain, BackwardBelt, WrongLiteral, ManyNamed, WrongEnds, WrongSheet, NotARoute, WrongCost, UnmetRule}
+use Rattle.route.specs.declared.check.SheetVerdict.the-variants.{Accepted, Refused}
 use Rattle.route.specs.Routes.{wrongEnds, connects, cost, beltsByName}
 use Rattle.route.specs.Permission.{passes, allMet}
 use Rattle.route.specs.Sheets.{inForm, beltsOn, costOn, settingOn}
@@ -79,15 +79,4 @@ sheetRefusal k = firstBroken checkLines k
 
 abbrev pub sheetNumber : SheetVerdict → ℕ
 sheetNumber Accepted = 0
-sheetNumber WrongSize = 1
-sheetNumber WrongHeader = 2
-sheetNumber WrongRecord = 3
-sheetNumber WrongChain = 4
-sheetNumber BackwardBelt = 5
-sheetNumber WrongLiteral = 6
-sheetNumber ManyNamed = 7
-sheetNumber WrongEnds = 8
-sheetNumber WrongSheet = 11
-sheetNumber NotARoute = 12
-sheetNumber WrongCost = 13
-sheetNumber UnmetRule = 14
+sheetNumber (Refused r) = refusalNumber r

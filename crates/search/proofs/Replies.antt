@@ -19,10 +19,12 @@ use mathlib.Core.List.{List, [], _∷_, _++_, map}
 use native.Mathlib.Omega.{arith}
 use lib.ListN.{length, drop}
 use borrow.Author.Tests.{lt-ltb, le-ltb}
+use Rattle.plan.specs.declared.refusal.Refusal.{Refusal}
 use Rattle.plan.specs.Plan.{Belt, planOf}
-use Rattle.plan.specs.Refusals.{Line, planLines, firstBroken, refusal}
+use Rattle.plan.specs.Refusals.{Line, planLines, firstBroken, refusal, refusalNumber}
 use Rattle.plan.specs.Reading.{Accepted}
 use Rattle.plan.proofs.First.{front-first, on-broken, on-unbroken, past, passed}
+use Rattle.plan.proofs.Numbers.{nonzero}
 use Rattle.route.specs.declared.path.Route.{Route}
 use Rattle.route.specs.Routes.{wrongEnds, cost}
 use Rattle.route.specs.Sheets.{sheetOf}
@@ -35,7 +37,6 @@ use Rattle.search.specs.declared.state.Stepped.{Stepped}
 use Rattle.search.specs.declared.state.Ending.{Ending}
 use Rattle.search.specs.declared.state.Ending.the-variants.{Found}
 use Rattle.search.specs.declared.query.Query.{Query}
-use Rattle.search.specs.declared.entry.Reply.{Reply}
 use Rattle.search.specs.Search.{Turn, settingOf, run}
 use Rattle.search.specs.Answers.{Request, asCase, onCheck, wrongQuery, broken9, broken10, line9, line10, searchRefusal, route, orZero, endingOf, ended, problemIn, unlessRefused, outcome, reply, Told}
 use Rattle.search.specs.Values.{bestIn, turnIn, requestOf}
@@ -128,6 +129,9 @@ pub outcome-by : (k : Request) (n : ℕ) → searchRefusal k ≡ n → unlessRef
 unfolding outcome
 outcome-by k n e = ap (λ (m : ℕ). unlessRefused m k) (sym e)
 
-pub refused-told : (k : Request) (n : ℕ) (v : Reply) (out : List ℕ) → (n ≡ 0 → ⊥) → searchRefusal k ≡ n → v ≡ reply n 0 0 → Told v out out (outcome k)
-refused-told k zero v out h e w = absurd (h refl)
-refused-told k (suc n) v out h e w = subst (Told v out out) (outcome-by k (suc n) e) (w, refl)
+pub refused-told : (k : Request) (r : Refusal) (out : List ℕ) → searchRefusal k ≡ refusalNumber r → Told (reply (refusalNumber r) 0 0) out out (outcome k)
+refused-told k r out e = go (refusalNumber r) (nonzero r) e
+  where
+    go : (n : ℕ) → (n ≡ 0 → ⊥) → searchRefusal k ≡ n → Told (reply n 0 0) out out (outcome k)
+    go zero h e = absurd (h refl)
+    go (suc n) h e = subst (Told (reply (suc n) 0 0) out out) (outcome-by k (suc n) e) (refl, refl)

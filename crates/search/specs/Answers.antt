@@ -30,14 +30,14 @@ use mathlib.Core.List.{List, [], _∷_, _++_, map}
 use lib.ListN.{length, drop}
 use lib.Dec.{leb, ltb}
 use Rattle.plan.specs.Plan.{Belt, Plan, planOf, namesOf}
-use Rattle.plan.specs.Refusals.{Line, firstBroken}
+use Rattle.plan.specs.Refusals.{Line, firstBroken, refusalNumber}
 use Rattle.route.specs.Routes.{cost}
 use Rattle.route.specs.Sheets.{sheetOf}
 use Rattle.route.specs.Refusals.{Case, queryLines}
 use Rattle.route.specs.Values.{caseOf}
 use Rattle.search.specs.declared.query.Query.{Query}
 use Rattle.search.specs.declared.entry.Answer.{Answer}
-use Rattle.search.specs.declared.entry.Answer.the-variants.{Found, Nothing, Spent, WrongSize, WrongHeader, WrongRecord, WrongChain, BackwardBelt, WrongLiteral, ManyNamed, WrongEnds, WrongQuery, ShortBuffer}
+use Rattle.search.specs.declared.entry.Answer.the-variants.{Found, Nothing, Spent, Refused}
 use Rattle.search.specs.declared.entry.Reply.{Reply}
 use Rattle.search.specs.declared.state.Ending.{Ending}
 use Rattle.search.specs.declared.state.Ending.the-variants as ending
@@ -132,16 +132,7 @@ abbrev pub replyOf : Answer → Reply
 replyOf (Found opened size) = reply 0 opened size
 replyOf (Nothing opened) = reply 100 opened 0
 replyOf (Spent opened) = reply 101 opened 0
-replyOf WrongSize = reply 1 0 0
-replyOf WrongHeader = reply 2 0 0
-replyOf WrongRecord = reply 3 0 0
-replyOf WrongChain = reply 4 0 0
-replyOf BackwardBelt = reply 5 0 0
-replyOf WrongLiteral = reply 6 0 0
-replyOf ManyNamed = reply 7 0 0
-replyOf WrongEnds = reply 8 0 0
-replyOf WrongQuery = reply 9 0 0
-replyOf ShortBuffer = reply 10 0 0
+replyOf (Refused r) = reply (refusalNumber r) 0 0
 
 abbrev pub outAfter : Outcome → List ℕ → List ℕ
 outAfter (route es c σ n) out = sheetOf es c σ ++ drop (length (sheetOf es c σ)) out

@@ -9,6 +9,8 @@ use plan::adjacency;
 use plan::check::Verdict;
 use plan::named;
 use plan::named::Named;
+use plan::refusal;
+use plan::refusal::Refusal;
 use route::clauses;
 use route::masks;
 use route::modes;
@@ -24,10 +26,9 @@ ghost use lib.ListN.{length};
 ghost use Rattle.plan.specs.Plan.{planOf, named, listed};
 ghost use Rattle.plan.specs.Adjacency.{arcsIn, endsOf};
 ghost use Rattle.plan.specs.Reading.{Accepted};
-ghost use Rattle.plan.specs.Refusals.{numberOf};
 ghost use Rattle.route.specs.Routes.{wrongEnds};
 ghost use Rattle.route.specs.Values.{settingIn, namedPlaces, Clauses};
-ghost use Rattle.search.specs.Answers.{orZero, unlessRefused, outcome, reply, replyOf, Told};
+ghost use Rattle.search.specs.Answers.{orZero, unlessRefused, outcome, replyOf, Told};
 ghost use Rattle.search.specs.Values.{requestOf, Valid};
 ghost use Rattle.search.specs.Inner.{bestOf};
 
@@ -39,20 +40,8 @@ pub enum Answer {
     Nothing(u64),
     // The budget is spent: how many were opened.
     Spent(u64),
-    // 1 to 7: lines of the plan.
-    WrongSize,
-    WrongHeader,
-    WrongRecord,
-    WrongChain,
-    BackwardBelt,
-    WrongLiteral,
-    ManyNamed,
-    // 8: s or t outside 1 to J.
-    WrongEnds,
-    // 9: pick over 2, order over 1, or budget 0.
-    WrongQuery,
-    // 10: the out buffer has under 3,072 bytes.
-    ShortBuffer,
+    // Refused by the first broken one of lines 1 to 10.
+    Refused(Refusal),
 }
 
 // An answer in numbers: 0 for a route, 100 for none, 101 for spent, or the number of the broken line; how many subproblems were opened; and the
@@ -61,23 +50,6 @@ pub struct Reply {
     pub number: u8,
     pub opened: u64,
     pub size: usize,
-}
-
-// The answer where the plan got this verdict, which refuses it.
-fn of_plan(verdict: Verdict) -> Answer
-    requires { ⌜ (numberOf verdict ≡ 0 → ⊥) ⌝ }
-    ensures { λ v. ⌜ replyOf v ≡ reply (numberOf verdict) 0 0 ⌝ }
-{
-    match verdict {
-        Verdict::Accepted => Answer::WrongSize,
-        Verdict::WrongSize => Answer::WrongSize,
-        Verdict::WrongHeader => Answer::WrongHeader,
-        Verdict::WrongRecord => Answer::WrongRecord,
-        Verdict::WrongChain => Answer::WrongChain,
-        Verdict::BackwardBelt => Answer::BackwardBelt,
-        Verdict::WrongLiteral => Answer::WrongLiteral,
-        Verdict::ManyNamed => Answer::ManyNamed,
-    }
 }
 
 // The setting that works, 0 where none does.
@@ -178,30 +150,19 @@ pub fn search(p: &[u8], query: Query, out: &mut [u8]) -> Answer
     ensures { λ v. ⌜ Told (replyOf v) (now (out .entry)) (now (out .exit)) (outcome (requestOf (now (p .entry)) query (now (out .entry)))) ⌝ }
 {
     let verdict = plan::check::check(p);
-    if plan::check::number(verdict) != 0 {
-        return of_plan(verdict);
+    if let Verdict::Refused(r) = verdict {
+        return Answer::Refused(r);
     }
     if path::wrong_ends(p, query.trip) {
-        return Answer::WrongEnds;
+        return Answer::Refused(Refusal::WrongEnds);
     }
     if query::wrong_query(query) {
-        return Answer::WrongQuery;
+        return Answer::Refused(Refusal::WrongQuery);
     }
     if out.len() < 3072 {
-        return Answer::ShortBuffer;
+        return Answer::Refused(Refusal::ShortBuffer);
     }
     find_route(p, query, out)
-}
-
-// The numbers of a refusal.
-fn refused(number: u8) -> Reply
-    ensures { λ v. ⌜ v ≡ reply number 0 0 ⌝ }
-{
-    Reply {
-        number: number,
-        opened: 0,
-        size: 0,
-    }
 }
 
 // An answer in numbers.
@@ -224,15 +185,10 @@ pub fn numbers(answer: Answer) -> Reply
             opened: opened,
             size: 0,
         },
-        Answer::WrongSize => refused(1),
-        Answer::WrongHeader => refused(2),
-        Answer::WrongRecord => refused(3),
-        Answer::WrongChain => refused(4),
-        Answer::BackwardBelt => refused(5),
-        Answer::WrongLiteral => refused(6),
-        Answer::ManyNamed => refused(7),
-        Answer::WrongEnds => refused(8),
-        Answer::WrongQuery => refused(9),
-        Answer::ShortBuffer => refused(10),
+        Answer::Refused(r) => Reply {
+            number: refusal::number(r),
+            opened: 0,
+            size: 0,
+        },
     }
 }

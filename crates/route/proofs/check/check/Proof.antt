@@ -6,6 +6,8 @@ use lib.ListN.{length}
 use borrow.Author.Needs.{needs}
 use borrow.Author.Tests.{not-true, not-false}
 use Rattle.plan.specs.Reading.{Accepted}
+use Rattle.plan.specs.Refusals.{numberOf}
+use Rattle.plan.proofs.Numbers.{nonzero}
 use Rattle.route.specs.declared.sheet.Sheet.{Sheet}
 use Rattle.route.specs.Refusals.{Case, broken8}
 use Rattle.route.specs.Values.{idsOf, caseOf}
@@ -23,37 +25,37 @@ case c = caseOf (c .args .p .now) (c .args .trip) (c .args .h .now)
 check-requires : tie.Need-check-requires
 check-requires c κs = search needs
 
-number-requires : tie.Need-number-requires
-number-requires c κs = search needs
+enum-known-verdict : tie.Need-enum-known-verdict
+enum-known-verdict c = search needs
 
-of-plan-requires : tie.Need-of-plan-requires
-of-plan-requires c κs = search needs
-
+-- the plan is refused: its refusal is passed on
 returns : tie.Need-returns
 returns c =
-    let number = c .before .before .number in
-    let answer = c .before .before .before .check .ensures in
     let start = c .before .before .before .before .before .before in
-    c .of-plan .ensures ∙ answer ∙ sym (refused-plan (case start) (λ z. c .before .if1 .taken (number .ensures ∙ answer ∙ z)))
+    let answer = sym (ap numberOf (c .before .verdict .given .1)) ∙ c .before .before .before .check .ensures in
+    answer ∙ sym (refused-plan (case start) (λ z. nonzero (c .before .verdict .given .0 .0) (answer ∙ z)))
+
+enum-told : tie.Need-enum-told
+enum-told c = search needs
+
+-- past the check of the plan: it is accepted
+accepted : (c : tie.After-enum-told) → Accepted (case (c .before .before .before .before .before) .plan)
+accepted c = record { unrefused = sym (c .before .before .check .ensures) ∙ ap numberOf (c .enum-told .given .1) }
 
 wrong-ends-requires : tie.Need-wrong-ends-requires
-wrong-ends-requires c κs = search needs
-
--- past the test of the plan: it is accepted
-accepted : (c : tie.Else1) → Accepted (case (c .before .before .before .before .before) .plan)
-accepted c = record { unrefused = sym (c .before .before .check .ensures) ∙ sym (c .before .number .ensures) ∙ c .if1 .left }
+wrong-ends-requires c κs = accepted c
 
 returns-2 : tie.Need-returns-2
 returns-2 c =
     let past = c .before .before in
     let start = past .before .before .before .before .before in
-    sym (refused-8 (case start) (accepted past) (ends-wrong (case start) (sym (c .before .wrong-ends .ensures) ∙ c .if2 .taken)))
+    sym (refused-8 (case start) (accepted past) (ends-wrong (case start) (sym (c .before .wrong-ends .ensures) ∙ c .if1 .taken)))
 
 -- past the test of s and t
-ends : (c : tie.Else2) → broken8 (case (c .before .before .before .before .before .before .before)) ≡ false
+ends : (c : tie.Else1) → broken8 (case (c .before .before .before .before .before .before .before)) ≡ false
 ends c =
     let start = c .before .before .before .before .before .before .before in
-    ends-fine (case start) (sym (c .before .wrong-ends .ensures) ∙ c .if2 .left)
+    ends-fine (case start) (sym (c .before .wrong-ends .ensures) ∙ c .if1 .left)
 
 in-form-requires : tie.Need-in-form-requires
 in-form-requires c κs = search needs
@@ -63,12 +65,12 @@ returns-3 c =
     let at = c .before .before in
     let past = at .before .before in
     let start = past .before .before .before .before .before in
-    let this = sym (c .before .in-form .ensures) ∙ not-true (c .before .in-form .result) (c .if3 .taken) in
+    let this = sym (c .before .in-form .ensures) ∙ not-true (c .before .in-form .result) (c .if2 .taken) in
     sym (no-form (case start) (accepted past) (ends at) this)
 
 -- past the test of the form
-form : (c : tie.Else3) → inForm (case (c .before .before .before .before .before .before .before .before .before) .sheet) ≡ true
-form c = sym (c .before .in-form .ensures) ∙ not-false (c .before .in-form .result) (c .if3 .left)
+form : (c : tie.Else2) → inForm (case (c .before .before .before .before .before .before .before .before .before) .sheet) ≡ true
+form c = sym (c .before .in-form .ensures) ∙ not-false (c .before .in-form .result) (c .if2 .left)
 
 read-requires : tie.Need-read-requires
 read-requires c κs = form c
@@ -99,9 +101,9 @@ check-spec =
     tie.close
     (tie.spec
     check-requires
-    number-requires
-    of-plan-requires
+    enum-known-verdict
     returns
+    enum-told
     wrong-ends-requires
     returns-2
     in-form-requires
