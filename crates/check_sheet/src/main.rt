@@ -13,6 +13,7 @@ use command::files;
 use command::refusals;
 use command::version;
 use route::check;
+use route::check::SheetVerdict;
 use route::path::Trip;
 
 // What is asked by the arguments: from where to where the sheet is to lead.
@@ -35,11 +36,10 @@ fn asked() -> Wanted {
 
 // Prints what the check says of a sheet.
 fn print_verdict(p: &[u8], trip: Trip, h: &[u8]) {
-    let number = check::number(check::check(p, trip, h));
-    if number == 0 {
-        output::print(b"accepted\n");
-    } else {
-        refusals::print_refused(number);
+    let verdict = check::check(p, trip, h);
+    match verdict {
+        SheetVerdict::Accepted => output::print(b"accepted\n"),
+        SheetVerdict::Refused(r) => refusals::print_refused(r),
     }
 }
 

@@ -21,6 +21,7 @@ use command::sheets::Place;
 use command::version;
 use route::path::Trip;
 use search::entry;
+use search::entry::Answer;
 use search::query::Query;
 
 // What is asked by the arguments.
@@ -69,7 +70,9 @@ fn answer(p: &[u8], query: Query, sheet: &[u8], place: Place) {
         return;
     }
     listing::print_query(query.trip, answer, &out);
-    refusals::tell_cause(reply.number);
+    if let Answer::Refused(r) = answer {
+        refusals::tell_cause(r);
+    }
     sheets::tell_kept(sheet, place);
 }
 

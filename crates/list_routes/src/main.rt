@@ -16,6 +16,7 @@ use command::arguments::Request;
 use command::files;
 use command::refusals;
 use command::version;
+use plan::check::Verdict;
 
 // Lists the routes of the plan of this name.
 fn list(name: &[u8]) {
@@ -24,7 +25,10 @@ fn list(name: &[u8]) {
     let contents = files::read(name, &mut p);
     let n = contents.size;
     if contents.read {
-        refusals::tell_cause(listing::print_listing(&p[..n]));
+        let verdict = listing::print_listing(&p[..n]);
+        if let Verdict::Refused(r) = verdict {
+            refusals::tell_cause(r);
+        }
     }
 }
 

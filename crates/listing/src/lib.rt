@@ -9,6 +9,7 @@ use output::Gathered;
 use output::Room;
 use output::put;
 use output::put_number;
+use plan::check::Verdict;
 use plan::read;
 use plan::read::BeltId;
 use route::path::Route;
@@ -21,7 +22,7 @@ use search::query::Query;
 ghost use mathlib.Core.Path.{_≡_};
 ghost use Prim.Native.Nat.{_≤_};
 ghost use Rattle.plan.specs.Reading.{Accepted};
-ghost use Rattle.plan.specs.Refusals.{refusal};
+ghost use Rattle.plan.specs.Refusals.{refusal, numberOf};
 ghost use Rattle.listing.specs.Lines.{blank, readSheet, sheetAt, lineOf};
 
 // Gathers the belts of a route, each behind a space.
@@ -216,14 +217,19 @@ fn put_listing(room: &mut Room, gathered: Gathered, p: &[u8], number: u8) -> Gat
     put_refused(room, gathered, number)
 }
 
-// Prints a line for each two junctions s < t of the plan, in rising s, then t; or that the plan is refused. Answers the number of the first line
-// of the refusal table that the plan breaks, or 0.
-pub fn print_listing(p: &[u8]) -> u8
-    ensures { λ v. ⌜ v ≡ refusal (now (p .entry)) ⌝ }
+// Prints a line for each two junctions s < t of the plan, in rising s, then t; or that the plan is refused. Answers the verdict of the
+// plan check.
+pub fn print_listing(p: &[u8]) -> Verdict
+    ensures { λ v. ⌜ numberOf v ≡ refusal (now (p .entry)) ⌝ }
 {
-    let number = plan::check::number(plan::check::check(p));
+    let verdict = plan::check::check(p);
     let mut room = io::large_buffer();
-    let gathered = put_listing(&mut room, output::nothing(), p, number);
+    let gathered = put_listing(
+        &mut room,
+        output::nothing(),
+        p,
+        plan::check::number(verdict),
+    );
     output::finish(&room, gathered);
-    number
+    verdict
 }

@@ -15,6 +15,7 @@ use output::Gathered;
 use output::Room;
 use output::put;
 use output::put_number;
+use plan::check::Verdict;
 use plan::named::Place;
 use plan::read::BeltId;
 use plan::read::Literal;
@@ -193,11 +194,18 @@ fn put_checked(room: &mut Room, gathered: Gathered, p: &[u8], number: u8) -> Gat
 
 // Any bytes: refused with a number, or shown.
 fn show(p: &[u8]) {
-    let number = plan::check::number(plan::check::check(p));
+    let verdict = plan::check::check(p);
     let mut room = io::large_buffer();
-    let gathered = put_checked(&mut room, output::nothing(), p, number);
+    let gathered = put_checked(
+        &mut room,
+        output::nothing(),
+        p,
+        plan::check::number(verdict),
+    );
     output::finish(&room, gathered);
-    refusals::tell_cause(number);
+    if let Verdict::Refused(r) = verdict {
+        refusals::tell_cause(r);
+    }
 }
 
 // Shows the plan of this name.

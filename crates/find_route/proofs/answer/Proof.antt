@@ -68,6 +68,9 @@ slice-aggregate-print-query-2 c = search needs
 print-query-requires-2 : tie.Need-print-query-requires-2
 print-query-requires-2 c κs = search needs
 
+enum-known-answer : tie.Need-enum-known-answer
+enum-known-answer c = search needs
+
 tell-cause-requires : tie.Need-tell-cause-requires
 tell-cause-requires c κs = search needs
 
@@ -93,6 +96,7 @@ answer-spec =
     returns-2
     slice-aggregate-print-query-2
     print-query-requires-2
+    enum-known-answer
     tell-cause-requires
     tell-kept-requires
     returns-3)
