@@ -2,45 +2,48 @@
 
 use crate::query::{Answer, Query};
 
+#[repr(C)]
+struct PlannerQuery {
+    s: u64,
+    t: u64,
+    pick: u64,
+    order: u64,
+    budget: u64,
+    mask: u64,
+    values: u64,
+    minute: u64,
+}
+
+#[repr(C)]
+struct PlannerReply {
+    number: u64,
+    opened: u64,
+    length: u64,
+    tests: u64,
+}
+
 extern "C" {
-    fn planner_plan(plan: *const u8, plan_len: usize) -> u64;
+    fn planner_check_plan(plan: *const u8, plan_len: usize) -> u64;
     fn planner_search(
         plan: *const u8,
         plan_len: usize,
-        s: u64,
-        t: u64,
-        pick: u64,
-        order: u64,
-        budget: u64,
+        query: PlannerQuery,
         out: *mut u8,
         out_len: usize,
-        opened: *mut u64,
-        length: *mut u64,
-    ) -> u64;
+    ) -> PlannerReply;
 }
 
-pub fn plan(plan: &[u8]) -> u64 {
+pub fn check_plan(plan: &[u8]) -> u64 {
     // SAFETY: the slice is valid for its length and is only read.
-    unsafe { planner_plan(plan.as_ptr(), plan.len()) }
+    unsafe { planner_check_plan(plan.as_ptr(), plan.len()) }
 }
 
 pub fn search(plan: &[u8], query: &Query, out: &mut [u8]) -> Answer {
-    let (mut opened, mut length) = (0, 0);
-    // SAFETY: both slices are valid for their lengths, and nothing lent overlaps.
-    let number = unsafe {
-        planner_search(
-            plan.as_ptr(),
-            plan.len(),
-            query.s,
-            query.t,
-            query.pick,
-            query.order,
-            query.budget,
-            out.as_mut_ptr(),
-            out.len(),
-            &mut opened,
-            &mut length,
-        )
-    };
-    Answer { number, opened, length }
+    let &Query { s, t, pick, order, budget } = query;
+    let asked = PlannerQuery { s, t, pick, order, budget, mask: 0, values: 0, minute: 0 };
+    // SAFETY: both slices are valid for their lengths, and they do not overlap.
+    let reply =
+        unsafe { planner_search(plan.as_ptr(), plan.len(), asked, out.as_mut_ptr(), out.len()) };
+    assert_eq!(reply.tests, 0, "no tests are counted yet");
+    Answer { number: reply.number, opened: reply.opened, length: reply.length }
 }

@@ -95,12 +95,12 @@ pub fn plan_checks(rows: &[PlanRow], time: Duration) {
 }
 
 fn plan_check(row: &PlanRow, time: Duration) -> f64 {
-    let number = call::plan(&row.plan);
+    let number = call::check_plan(&row.plan);
     assert_eq!(number, check::number(&row.plan), "row {}: the answers differ", row.name);
     let times = in_turn(
         time,
         &mut || {
-            black_box(call::plan(black_box(&row.plan)));
+            black_box(call::check_plan(black_box(&row.plan)));
         },
         &mut || {
             black_box(check::number(black_box(&row.plan)));

@@ -3,23 +3,48 @@
 
 use crate::refusals::Query;
 use crate::rng::Rng;
+use crate::stack;
+
+/// The query as the library takes it.
+#[repr(C)]
+#[derive(Clone, Copy)]
+struct PlannerQuery {
+    s: u64,
+    t: u64,
+    pick: u64,
+    order: u64,
+    budget: u64,
+    mask: u64,
+    values: u64,
+    minute: u64,
+}
+
+/// The reply as the library gives it.
+#[repr(C)]
+#[derive(Clone, Copy, Debug, PartialEq)]
+pub struct PlannerReply {
+    pub number: u64,
+    pub opened: u64,
+    pub length: u64,
+    pub tests: u64,
+}
 
 extern "C" {
-    fn planner_plan(plan: *const u8, plan_len: usize) -> u64;
+    fn planner_check_plan(plan: *const u8, plan_len: usize) -> u64;
     fn planner_search(
         plan: *const u8,
         plan_len: usize,
-        s: u64,
-        t: u64,
-        pick: u64,
-        order: u64,
-        budget: u64,
+        query: PlannerQuery,
         out: *mut u8,
         out_len: usize,
-        opened: *mut u64,
-        length: *mut u64,
+    ) -> PlannerReply;
+    fn planner_check_sheet(
+        plan: *const u8,
+        plan_len: usize,
+        query: PlannerQuery,
+        sheet: *const u8,
+        sheet_len: usize,
     ) -> u64;
-    fn planner_check(plan: *const u8, plan_len: usize, s: u64, t: u64, sheet: *const u8, sheet_len: usize) -> u64;
 }
 
 const GUARD: usize = 64;
@@ -73,11 +98,9 @@ impl Lent {
     }
 }
 
-/// What a search answered, with everything lent before and after.
+/// What a search answered, with the buffer before and after.
 pub struct Searched {
-    pub number: u64,
-    pub opened: (u64, u64),
-    pub length: (u64, u64),
+    pub reply: PlannerReply,
     pub out_before: Vec<u8>,
     pub out: Vec<u8>,
     /// What changed that no answer may change.
@@ -85,57 +108,45 @@ pub struct Searched {
 }
 
 /// The number, and what changed though nothing may.
-pub fn plan(plan: &[u8], rng: &mut Rng) -> (u64, Option<String>) {
+pub fn check_plan(plan: &[u8], rng: &mut Rng) -> (u64, Option<String>) {
     let mut plan = Lent::new(plan, rng);
+    let (pointer, len) = (plan.pointer(), plan.len);
     // SAFETY: the pointer has that many bytes behind it.
-    let number = unsafe { planner_plan(plan.pointer(), plan.len) };
+    let number = stack::CHECK_PLAN.call(|| unsafe { planner_check_plan(pointer, len) });
     (number, plan.read_only("plan"))
+}
+
+/// What no function looks at yet has any value.
+fn any_query(rng: &mut Rng) -> PlannerQuery {
+    let [s, t, pick, order, budget, mask, values, minute] = std::array::from_fn(|_| rng.next());
+    PlannerQuery { s, t, pick, order, budget, mask, values, minute }
 }
 
 pub fn search(plan: &[u8], query: &Query, rng: &mut Rng) -> Searched {
     let mut plan = Lent::new(plan, rng);
     let mut out = Lent::new(&rng.bytes(query.out_len), rng);
-    let before: [u64; 5] = std::array::from_fn(|_| rng.next());
-    let mut cells = before;
-    let pointer = cells.as_mut_ptr();
+    let &Query { s, t, pick, order, budget, .. } = query;
+    let asked = PlannerQuery { s, t, pick, order, budget, ..any_query(rng) };
+    let (plan_pointer, plan_len, out_pointer, out_len) = (plan.pointer(), plan.len, out.pointer(), out.len);
     // SAFETY: each buffer has as many bytes as is said, and none overlaps another.
-    let number = unsafe {
-        planner_search(
-            plan.pointer(),
-            plan.len,
-            query.s,
-            query.t,
-            query.pick,
-            query.order,
-            query.budget,
-            out.pointer(),
-            out.len,
-            pointer.add(1),
-            pointer.add(3),
-        )
-    };
-    let cells_strayed = [0, 2, 4].iter().any(|cell| cells[*cell] != before[*cell]);
+    let reply = stack::SEARCH.call(|| unsafe { planner_search(plan_pointer, plan_len, asked, out_pointer, out_len) });
     let strayed = plan.read_only("plan");
     let strayed = strayed.or(out.guards_changed().then(|| "guard bytes of out changed".to_string()));
-    let strayed = strayed.or(cells_strayed.then(|| "words around opened and length changed".to_string()));
-    Searched {
-        number,
-        opened: (before[1], cells[1]),
-        length: (before[3], cells[3]),
-        out_before: out.content_before().to_vec(),
-        out: out.content().to_vec(),
-        strayed,
-    }
+    Searched { reply, out_before: out.content_before().to_vec(), out: out.content().to_vec(), strayed }
 }
 
-/// The number, and what changed though nothing may.
-pub fn check(plan: &[u8], s: u64, t: u64, sheet: &[u8], rng: &mut Rng) -> (u64, Option<String>) {
+/// The number, and what changed though nothing may. Pick, order and budget are not
+/// looked at here, so they have any value too.
+pub fn check_sheet(plan: &[u8], s: u64, t: u64, sheet: &[u8], rng: &mut Rng) -> (u64, Option<String>) {
     // Plan and sheet may overlap: the same bytes are lent once or twice.
     let once = plan == sheet && rng.chance(1, 2);
     let mut plan = Lent::new(plan, rng);
     let mut sheet = Lent::new(sheet, rng);
-    let sheet_pointer = if once { plan.pointer() } else { sheet.pointer() };
+    let asked = PlannerQuery { s, t, ..any_query(rng) };
+    let (plan_pointer, plan_len) = (plan.pointer(), plan.len);
+    let (sheet_pointer, sheet_len) = (if once { plan_pointer } else { sheet.pointer() }, sheet.len);
     // SAFETY: each pointer has that many bytes behind it.
-    let number = unsafe { planner_check(plan.pointer(), plan.len, s, t, sheet_pointer, sheet.len) };
+    let number = stack::CHECK_SHEET
+        .call(|| unsafe { planner_check_sheet(plan_pointer, plan_len, asked, sheet_pointer, sheet_len) });
     (number, plan.read_only("plan").or(sheet.read_only("sheet")))
 }

@@ -1,7 +1,7 @@
 //! Calls the library and compares its answer, and everything lent to it, with
 //! what is expected.
 
-use crate::call::{self, Searched};
+use crate::call::{self, PlannerReply, Searched};
 use crate::plan::{records_of, Record};
 use crate::refusals::Query;
 use crate::rng::Rng;
@@ -37,14 +37,14 @@ impl Judge {
     }
 
     pub fn plan(&mut self, plan: &[u8], expected: u64) -> Verdict {
-        let (number, strayed) = call::plan(plan, &mut self.guards);
-        self.tally.add("answers of planner_plan", &number.to_string());
+        let (number, strayed) = call::check_plan(plan, &mut self.guards);
+        self.tally.add("answers of planner_check_plan", &number.to_string());
         self.number(&format!("plan of {} bytes", plan.len()), plan, expected, number, strayed)
     }
 
     pub fn check(&mut self, plan: &[u8], s: u64, t: u64, sheet: &[u8], expected: u64) -> Verdict {
-        let (number, strayed) = call::check(plan, s, t, sheet, &mut self.guards);
-        self.tally.add("answers of planner_check", &number.to_string());
+        let (number, strayed) = call::check_sheet(plan, s, t, sheet, &mut self.guards);
+        self.tally.add("answers of planner_check_sheet", &number.to_string());
         let what = format!("check from {s} to {t} of a sheet of {} bytes ({})", sheet.len(), shown(sheet));
         self.number(&what, plan, expected, number, strayed)
     }
@@ -62,7 +62,7 @@ impl Judge {
 
     pub fn search(&mut self, plan: &[u8], query: &Query, expected: &Answer) -> Verdict {
         let got = call::search(plan, query, &mut self.guards);
-        self.note_search(query, expected, got.number);
+        self.note_search(query, expected, got.reply.number);
         let what = format!(
             "search from {} to {}, pick {}, order {}, budget {}, out {} bytes",
             query.s, query.t, query.pick, query.order, query.budget, query.out_len
@@ -105,43 +105,43 @@ impl Judge {
     }
 }
 
-/// A search's answer and all that was lent for writing, after the call.
+/// A search's reply, and the buffer after the call.
 #[derive(PartialEq)]
 struct State {
-    number: u64,
-    opened: u64,
-    length: u64,
+    reply: PlannerReply,
     out: Vec<u8>,
 }
 
 impl State {
     fn of(got: &Searched) -> State {
-        State { number: got.number, opened: got.opened.1, length: got.length.1, out: got.out.clone() }
+        State { reply: got.reply, out: got.out.clone() }
     }
 
     fn shown(&self) -> String {
-        let sheet = if self.number == 0 && self.length as usize <= self.out.len() {
-            shown(&self.out[..self.length as usize])
+        let PlannerReply { number, opened, length, tests } = self.reply;
+        let sheet = if number == 0 && length as usize <= self.out.len() {
+            shown(&self.out[..length as usize])
         } else {
             String::from("no sheet")
         };
-        format!("{} opened {} length {} ({sheet})", self.number, self.opened, self.length)
+        format!("{number} opened {opened} length {length} tests {tests} ({sheet})")
     }
 }
 
 impl Answer {
-    /// What everything has to be after the call, from what it was before.
+    /// What everything has to be after the call, from what the buffer was before.
     fn after(&self, got: &Searched) -> State {
         let mut out = got.out_before.clone();
-        match self {
-            Answer::Refused(number) => State { number: *number, opened: got.opened.0, length: got.length.0, out },
-            Answer::None { opened } => State { number: 100, opened: *opened, length: 0, out },
-            Answer::Spent { opened } => State { number: 101, opened: *opened, length: 0, out },
+        let (number, opened, length) = match self {
+            Answer::Refused(number) => (*number, 0, 0),
+            Answer::None { opened } => (100, *opened, 0),
+            Answer::Spent { opened } => (101, *opened, 0),
             Answer::Route { opened, sheet } => {
                 out[..sheet.len()].copy_from_slice(sheet);
-                State { number: 0, opened: *opened, length: sheet.len() as u64, out }
+                (0, *opened, sheet.len() as u64)
             }
-        }
+        };
+        State { reply: PlannerReply { number, opened, length, tests: 0 }, out }
     }
 }
 

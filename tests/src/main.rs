@@ -13,6 +13,7 @@ mod checks;
 mod compare;
 mod damage;
 mod enumerate;
+mod examples;
 mod generate;
 mod layout;
 mod plan;
@@ -20,6 +21,7 @@ mod refusals;
 mod rng;
 mod searches;
 mod sheet;
+mod stack;
 mod tally;
 mod watch;
 mod written;
@@ -96,7 +98,7 @@ fn run_all() -> bool {
     let base = setting("PLANNER_TEST_SEED", BASE_SEED);
     let damages = Damages::all();
     let mut judge = Judge::new(false);
-    if let Err(message) = anchors::run(&mut judge) {
+    if let Err(message) = anchors::run(&mut judge).and_then(|()| examples::run(&mut judge)) {
         println!("FAILED: {message}");
         return false;
     }
@@ -109,6 +111,13 @@ fn run_all() -> bool {
         }
     }
     judge.tally.print();
+    match stack::report() {
+        Ok(told) => println!("{told}"),
+        Err(told) => {
+            println!("FAILED: {told}");
+            return false;
+        }
+    }
     let missing = judge.tally.missing(&damages.classes());
     if plans >= PLANS && !missing.is_empty() {
         println!("FAILED: never reached:\n  {}", missing.join("\n  "));

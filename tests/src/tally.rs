@@ -92,9 +92,9 @@ impl Tally {
         for (group, names) in CLASSES {
             required.extend(names.iter().map(|name| (group, name.to_string())));
         }
-        required.extend((0..=7).map(|number| ("answers of planner_plan", number.to_string())));
+        required.extend((0..=7).map(|number| ("answers of planner_check_plan", number.to_string())));
         required.extend((0..=10).chain([100, 101]).map(|number| ("answers of planner_search", number.to_string())));
-        required.extend((0..=8).chain(11..=14).map(|number| ("answers of planner_check", number.to_string())));
+        required.extend((0..=8).chain(11..=14).map(|number| ("answers of planner_check_sheet", number.to_string())));
         required.extend((0..=10).map(|modes| ("modes", modes.to_string())));
         for ending in ["route", "none", "spent"] {
             for (pick, order) in [(0, 0), (0, 1), (1, 0), (1, 1), (2, 0), (2, 1)] {

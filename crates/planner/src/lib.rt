@@ -1,5 +1,6 @@
 // The C interface, declared in include/planner.h: the check of a plan, the search, and the check of a sheet. A slice is lent as a pointer and a
-// length. What they answer and write is what the crates below say; no function asks anything of its caller.
+// length; a query and a reply are handed over by value. What they answer and write is what the crates below say; no function asks anything of its
+// caller.
 use route::path::Trip;
 use search::entry;
 use search::query::Query;
@@ -7,54 +8,71 @@ ghost use mathlib.Core.Path.{_≡_};
 ghost use Rattle.plan.specs.Refusals.{refusal};
 ghost use Rattle.route.specs.Refusals.{sheetRefusal};
 ghost use Rattle.route.specs.Values.{caseOf};
-ghost use Rattle.search.specs.Answers.{outcome, replyTo};
-ghost use Rattle.planner.specs.Interface.{tripOf, callOf, lent, lentAfter};
+ghost use Rattle.search.specs.Answers.{outcome, replyTo, outAfter};
+ghost use Rattle.planner.specs.Interface.{tripOf, callOf, toCaller};
+
+// A query of a caller. No function looks at mask, values and minute yet: they are for later, and a caller sets them to 0.
+#[repr(C)]
+pub struct PlannerQuery {
+    pub s: u64,
+    pub t: u64,
+    pub pick: u64,
+    pub order: u64,
+    pub budget: u64,
+    pub mask: u64,
+    pub values: u64,
+    pub minute: u64,
+}
+
+// The reply to a caller: 0 for a route, 100 for none, 101 for spent, or the number of the broken line; how many subproblems were opened; and the
+// length of the sheet. What an answer does not have is 0. No function counts tests yet: they are 0.
+#[repr(C)]
+pub struct PlannerReply {
+    pub number: u64,
+    pub opened: u64,
+    pub length: u64,
+    pub tests: u64,
+}
 
 // Checks a plan: 0, or the number of the first broken line.
 #[no_mangle]
-pub extern "C" fn planner_plan(p: &[u8]) -> u64
+pub extern "C" fn planner_check_plan(p: &[u8]) -> u64
     ensures { λ v. ⌜ v ≡ refusal (now (p .entry)) ⌝ }
 {
     plan::check::number(plan::check::check(p)) as u64
 }
 
-// Answers a query: 0 with a sheet at the start of `out`, 100 for none, 101 for spent, or the number of the first broken line. Where no line is
-// broken the count of opened subproblems and the length of the sheet are written.
+// Answers a query. On a route its sheet is written to the start of `out`; else no byte of it changes.
 #[no_mangle]
-pub extern "C" fn planner_search(
-    p: &[u8],
-    s: u64,
-    t: u64,
-    pick: u64,
-    order: u64,
-    budget: u64,
-    out: &mut [u8],
-    opened: &mut u64,
-    length: &mut u64,
-) -> u64
-    ensures { λ v. ⌜ v ≡ replyTo (outcome (callOf (now (p .entry)) s t pick order budget (now (out .entry)))) .number ⌝ }
-    ensures { λ _. ⌜ lent (now (out .exit)) (now (opened .exit)) (now (length .exit)) ≡ lentAfter (outcome (callOf (now (p .entry)) s t pick order budget (now (out .entry)))) (lent (now (out .entry)) (now (opened .entry)) (now (length .entry))) ⌝ }
+pub extern "C" fn planner_search(p: &[u8], query: PlannerQuery, out: &mut [u8]) -> PlannerReply
+    ensures { λ v. ⌜ (v ≡ toCaller (replyTo (outcome (callOf (now (p .entry)) query (now (out .entry))))))
+        × (now (out .exit) ≡ outAfter (outcome (callOf (now (p .entry)) query (now (out .entry)))) (now (out .entry))) ⌝ }
 {
-    let query = Query {
-        trip: Trip { s: s, t: t },
-        pick: pick,
-        order: order,
-        budget: budget,
+    let asked = Query {
+        trip: Trip {
+            s: query.s,
+            t: query.t,
+        },
+        pick: query.pick,
+        order: query.order,
+        budget: query.budget,
     };
-    let reply = entry::numbers(entry::search(p, query, out));
-    let number = reply.number;
-    if number == 0 || 100 <= number {
-        *opened = reply.opened;
-        *length = reply.size as u64;
+    let reply = entry::numbers(entry::search(p, asked, out));
+    PlannerReply {
+        number: reply.number as u64,
+        opened: reply.opened,
+        length: reply.size as u64,
+        tests: 0,
     }
-    number as u64
 }
 
-// Checks a sheet against a plan: 0, or the number of the first broken line.
+// Checks a sheet against a plan: 0, or the number of the first broken line. Of the query it looks at s and t alone.
 #[no_mangle]
-pub extern "C" fn planner_check(p: &[u8], s: u64, t: u64, sheet: &[u8]) -> u64
-    ensures { λ v. ⌜ v ≡ sheetRefusal (caseOf (now (p .entry)) (tripOf s t) (now (sheet .entry))) ⌝ }
+pub extern "C" fn planner_check_sheet(p: &[u8], query: PlannerQuery, sheet: &[u8]) -> u64
+    ensures { λ v. ⌜ v ≡ sheetRefusal (caseOf (now (p .entry)) (tripOf query) (now (sheet .entry))) ⌝ }
 {
+    let s = query.s;
+    let t = query.t;
     let trip = Trip { s: s, t: t };
     route::check::number(route::check::check(p, trip, sheet)) as u64
 }

@@ -1,0 +1,39 @@
+//! The plans of the folder `examples`, from the first junction to the last. What the
+//! planner answers there is compared elsewhere: here a sheet that it writes has to
+//! be accepted, and the stack of each call counts.
+
+use crate::call;
+use crate::compare::{Judge, Verdict};
+use crate::refusals::{self, Query, SHEET_MAX};
+use crate::rng::Rng;
+use std::path::Path;
+
+const BUDGET: u64 = 10_000;
+
+pub fn run(judge: &mut Judge) -> Verdict {
+    let folder = Path::new(env!("CARGO_MANIFEST_DIR")).join("../examples");
+    for entry in std::fs::read_dir(folder).expect("the folder of examples") {
+        let path = entry.expect("a file").path();
+        if path.extension().is_some_and(|ending| ending == "plan") {
+            run_plan(&std::fs::read(&path).expect("a plan"), judge)?;
+        }
+    }
+    Ok(())
+}
+
+fn run_plan(bytes: &[u8], judge: &mut Judge) -> Verdict {
+    let plan = match refusals::read(bytes) {
+        Ok(plan) => plan,
+        Err(line) => return judge.plan(bytes, line),
+    };
+    judge.plan(bytes, 0)?;
+    let (s, t) = (1, plan.junctions as u64);
+    for (pick, order) in [(0, 0), (0, 1), (1, 0), (1, 1), (2, 0), (2, 1)] {
+        let query = Query { s, t, pick, order, budget: BUDGET, out_len: SHEET_MAX };
+        let got = call::search(bytes, &query, &mut Rng::new(0));
+        if got.reply.number == 0 {
+            judge.check(bytes, s, t, &got.out[..got.reply.length as usize], 0)?;
+        }
+    }
+    Ok(())
+}
