@@ -17,9 +17,9 @@
  * Null. A pointer with a length says where that many bytes are; with length 0 it
  * is not looked at, and may be null. No other pointer may be null.
  *
- * Overlap. What is lent as `const` is only read. `out` is written, so it must not
- * overlap the plan. Plan and sheet may overlap, since both are only read. Nobody
- * else may write to any lent memory during a call.
+ * Overlap. What is written may overlap nothing else that is lent: `out` lies apart
+ * from the plan. Plan and sheet may overlap, since both are only read. Nobody else
+ * may write to any lent memory during a call.
  *
  * Stack. PLANNER_STACK bytes are enough for a call of any function.
  */
