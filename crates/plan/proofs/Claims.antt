@@ -1,6 +1,6 @@
--- The claims of specs/Claims.antt, proved. Assumes nothing.
+-- The claims of specs/Claims.antt hold, all of them. Assumes nothing.
 use Rattle.plan.specs.Refusals.{planLines, refusal}
-use Rattle.plan.specs.Claims.{FirstClaim, LimitsClaim, DistinctClaim, NonzeroClaim}
+use Rattle.plan.specs.Claims.{FirstClaim, LimitsClaim, DistinctClaim, NonzeroClaim, Claims}
 use Rattle.plan.proofs.First.{first-exactly}
 use Rattle.plan.proofs.Limits.{limits-accepted, accepted-limits}
 use Rattle.plan.proofs.Numbers.{distinct, nonzero}
@@ -21,3 +21,11 @@ distinct-claim r s e = distinct r s e
 -- no refusal has the number 0
 pub nonzero-claim : NonzeroClaim
 nonzero-claim r e = nonzero r e
+
+pub claims : Claims
+claims = record {
+  first = first-claim;
+  limits = limits-claim;
+  distinct = distinct-claim;
+  nonzero = nonzero-claim;
+}

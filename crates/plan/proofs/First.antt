@@ -9,20 +9,22 @@
 --   none-broken     it answers 0 where no line is broken
 --   first-exactly   all this in one: it answers so, and nothing else
 --   passed          where it answers 0, and no line has that number, every line is unbroken
+--   first-about     lines said of things that have others are broken where they are broken by those; about-unbroken, unbroken-about: so they are
+--                   unbroken exactly where they are by those
 --
 -- Assumes nothing.
 use mathlib.Core.Path.{_≡_, refl, sym, _∙_, ap, subst}
 use mathlib.Core.Logic.{_⊎_, inl, inr, _↔_}
 use mathlib.Core.Bool.{Bool, true, false}
 use Prim.Native.Nat.{ℕ}
-use mathlib.Core.List.{List, [], _∷_, _++_, List·Memᴰ·head, List·Memᴰ·tail, List·Memᴰ·not-nil}
+use mathlib.Core.List.{List, [], _∷_, _++_, map, List·Memᴰ·head, List·Memᴰ·tail, List·Memᴰ·not-nil}
 use native.Mathlib.Omega.{arith}
 use lib.Dec.{leb}
 use borrow.Author.Tests.{leb-true}
 use Rattle.plan.specs.Lists.{all}
-use Rattle.plan.specs.Refusals.{Line, firstBroken}
+use Rattle.plan.specs.Refusals.{Line, about, firstBroken}
 use Rattle.plan.specs.Claims.{Unbroken, FirstIn}
-use Rattle.plan.proofs.Lists.{both, each}
+use Rattle.plan.proofs.Lists.{both, each, in-map, map-in}
 
 module _ {A : Type 0} where
   -- one more line in front, broken or not
@@ -112,3 +114,16 @@ module _ {A : Type 0} where
       go : leb 1 (l .number) ≡ true → (t : Bool) → l .broken b ≡ t → (firstBroken ls b ≡ 0 → Unbroken ls b) → Unbroken (l ∷ ls) b
       go from-1 true q below = let z : l .number ≡ 0 = sym (on-broken l ls b q) ∙ e in absurd (omega (arith, leb-true 1 (l .number) from-1))
       go from-1 false q below = more l ls b q (below (sym (on-unbroken l ls b q) ∙ e))
+
+-- ---- lines about what a thing has
+
+module _ {A B : Type 0} (f : B → A) where
+  pub first-about : (ls : List (Line A)) (b : B) → firstBroken (map (about f) ls) b ≡ firstBroken ls (f b)
+  first-about [] b = refl
+  first-about (l ∷ ls) b = ap (λ (n : ℕ). elim (l .broken (f b)) [ true ↦ l .number | false ↦ n ]) (first-about ls b)
+
+  pub unbroken-about : (ls : List (Line A)) (b : B) → Unbroken ls (f b) → Unbroken (map (about f) ls) b
+  unbroken-about ls b h l m = let (x, n, q) = map-in (about f) ls m in ap (λ (y : Line B). y .broken b) q ∙ h x n
+
+  pub about-unbroken : (ls : List (Line A)) (b : B) → Unbroken (map (about f) ls) b → Unbroken ls (f b)
+  about-unbroken ls b h l m = h (about f l) (in-map (about f) m)

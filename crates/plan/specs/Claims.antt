@@ -1,4 +1,4 @@
--- What is claimed of the plan check, as types; proofs/Claims.antt proves each. The contract of `check::check` says that its answer's
+-- What is claimed of the plan check, as types; proofs/Claims.antt proves them all. The contract of `check::check` says that its answer's
 -- number is `refusal` of the bytes, for any bytes; these say what that number means.
 --
 --   Unbroken ls a     a breaks no line of ls
@@ -41,3 +41,10 @@ DistinctClaim = (r s : Refusal) → refusalNumber r ≡ refusalNumber s → r �
 
 abbrev pub NonzeroClaim : Type 0
 NonzeroClaim = (r : Refusal) → refusalNumber r ≡ 0 → ⊥
+
+-- all of them
+pub record Claims : Type 0 where
+  pub first : FirstClaim
+  pub limits : LimitsClaim
+  pub distinct : DistinctClaim
+  pub nonzero : NonzeroClaim

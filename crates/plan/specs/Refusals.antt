@@ -8,6 +8,7 @@
 --     backward b j           a belt on the chain of junction j does not lead to a higher one (line 5)
 --     literalFits b l        what literal l names is there; misnames b l: l is a literal and it is not (line 6)
 --   Line A                   a line about things of type A: its number, and the sentence that it is broken
+--   about f l                the line l, said of things that have one of its things: f gives it
 --   planLines                lines 1 to 7, in the order in which they count
 --   firstBroken ls a         the number of the first line of ls that a breaks, or 0
 --   refusal b                that of planLines: "the lower number wins over the whole plan"
@@ -100,6 +101,9 @@ broken7 b = ltb 48 (length (named (planOf b)))
 pub record Line (A : Type 0) : Type 0 where
   pub number : ℕ
   pub broken : A → Bool
+
+abbrev pub about : {A B : Type 0} → (B → A) → Line A → Line B
+about {A} {B} f l = record { number = l .number; broken = λ (b : B). l .broken (f b) }
 
 abbrev pub firstBroken : {A : Type 0} → List (Line A) → A → ℕ
 firstBroken [] a = 0

@@ -1,6 +1,6 @@
 -- The relaxed route, as the code holds it, can be tested, written and checked.
 --
---   answer-claim   this as it is claimed (AnswerClaim)
+--   answer-law   this as it is claimed (AnswerLaw)
 --
 -- Assumes nothing.
 use mathlib.Core.Path.{_≡_, sym, _∙_, ap, subst}
@@ -16,7 +16,7 @@ use Rattle.plan.proofs.Lists.{map-in}
 use Rattle.plan.proofs.Reading.{belt-of}
 use Rattle.route.specs.Routes.{IsRoute, costLimit, beltsByName}
 use Rattle.route.specs.Values.{idsOf, packed, Known, routeIn, routeOf, firstBelts, keptOf}
-use Rattle.route.specs.Claims.{AnswerClaim}
+use Rattle.route.specs.Laws.{AnswerLaw}
 use Rattle.route.proofs.ByName.{names-belts, route-few, route-cheap, route-belts, ids-packed}
 use Rattle.route.proofs.Bounded.{at-most-some}
 use Rattle.route.proofs.Firsts.{relaxed-some}
@@ -44,8 +44,8 @@ stands r h room size =
     ap packed
     (ap (take (length r)) (sets-eq (namesOf r) room 0 (omega arith)) ∙ take-at (namesOf r) (drop (0 + length (namesOf r)) room) (length r) many)
 
-pub answer-claim : AnswerClaim
-answer-claim b ok bytes s t low high x r q =
+pub answer-law : AnswerLaw
+answer-law b ok bytes s t low high x r q =
     let i : IsRoute (planOf b) s t r = relaxed-some ok s t x r q .0 in
     let h = few ok s t r i low high in
     let cheap = route-cheap ok bytes s t r high i in

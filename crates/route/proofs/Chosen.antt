@@ -1,8 +1,8 @@
 -- Any choice of named belts as a mask.
 --
---   bit-claim     bit k of a mask is for the k-th of the named belts (BitClaim)
+--   bit-law     bit k of a mask is for the k-th of the named belts (BitLaw)
 --   mask-low      the mask of named belts is of named belts; mask-in, in-mask: it fixes exactly these
---   masks-claim   every subproblem of named belts has masks (MasksClaim)
+--   masks-law   every subproblem of named belts has masks (MasksLaw)
 --
 -- Assumes nothing.
 use mathlib.Core.Path.{_≡_, refl, sym, _∙_, ap}
@@ -22,12 +22,12 @@ use Rattle.plan.proofs.Reading.{belt-low}
 use Rattle.route.specs.declared.relax.Fixings.{Fixings}
 use Rattle.route.specs.Subproblems.{Subproblem, admits, relaxed}
 use Rattle.route.specs.Values.{inMask, fixedIn, subproblemIn, maskOf}
-use Rattle.route.specs.Claims.{BitClaim, MasksClaim}
+use Rattle.route.specs.Laws.{BitLaw, MasksLaw}
 use Rattle.route.proofs.Firsts.{admits-is, is-admits, relaxed-some, relaxed-none, is-relaxed, no-relaxed}
 use Rattle.route.proofs.Fixed.{fixed-mem, gathered-from, gathered-low}
 
-pub bit-claim : BitClaim
-bit-claim b m k l =
+pub bit-law : BitLaw
+bit-law b m k l =
     let ns = named (planOf b) in
     let (e, i, q) = place-at (named-rises b) k l in
     let here : getD ns k 0 ≡ e = sym (ap (λ (j : ℕ). getD ns j 0) q) ∙ at-place e (named-rises b) i .0 in
@@ -67,8 +67,8 @@ relaxed-same {b} ok x y to from s t = go (relaxed (planOf b) s t x) refl
         let (i, a, least) = relaxed-some ok s t x r h in
         sym (is-relaxed ok s t y r i (to r a) (λ q j c. least q j (from q c)))
 
-pub masks-claim : MasksClaim
-masks-claim b ok x req forb =
+pub masks-law : MasksLaw
+masks-law b ok x req forb =
     let f : Fixings = record { required = maskOf b (x .required); forbidden = maskOf b (x .forbidden) } in (
       f,
       mask-low ok (x .required) req,

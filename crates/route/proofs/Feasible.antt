@@ -31,7 +31,8 @@ use Rattle.plan.specs.Reading.{Accepted}
 use Rattle.plan.proofs.Lists.{test, beq-true, beq-refl, all-in, all-is, in-any, any-some, in-map, map-in, upto-in}
 use Rattle.route.specs.Lcsp.{Var, graph, free, Lit, ¬ₗ, Clause, Formula, _∈?_, Consistent, IsAssignment, AssignedTrue, AssignedFalse, IsComplete, Satisfies, Arc, arcVar, variables, onPath, induced, Agree, FeasibleBy, Feasible}
 use Rattle.route.specs.Routes.{IsRoute}
-use Rattle.route.specs.Permission.{passes, isOn, holds, met, allMet, Permitted}
+use Rattle.route.specs.declared.path.Trip.{Trip}
+use Rattle.route.specs.Permission.{passes, isOn, holds, met, termsOf, works, Permitted, IsPermitted}
 use Rattle.route.specs.Instances.{arcOf, litOf, modesOf, instanceOf, settled, joint}
 use Rattle.route.specs.Claims.{MetClaim, PermittedClaim, PathsClaim}
 use Rattle.route.proofs.Condition.{in-set, not-in, Hit, satisfied-hit, hit-satisfied}
@@ -90,15 +91,15 @@ module _ (r : List Belt) (σ : ℕ) where
 
 -- ---- the joint assignment
 
-module _ (p : Plan) (s t : ℕ) where
+module _ (p : Plan) (trip : Trip) where
   abbrev Arcs : List Arc
-  Arcs = instanceOf p s t .arcs
+  Arcs = instanceOf p trip .arcs
 
   abbrev Vars : List Var
-  Vars = variables (instanceOf p s t)
+  Vars = variables (instanceOf p trip)
 
   abbrev Rules : Formula
-  Rules = instanceOf p s t .formula
+  Rules = instanceOf p trip .formula
 
   -- a variable is that of an arc, or a mode
   abbrev IsVar : Var → Type 0
@@ -124,10 +125,10 @@ module _ (p : Plan) (s t : ℕ) where
         go : List·Memᴰ l Induced ⊎ List·Memᴰ l (settled (p .modes) σ) → List·Memᴰ (l .var) Vars × Right r σ l
         go (inl k) =
             let (a, i, q) = map-in (arcSays (map arcOf r)) Arcs k in
-            (Memᴰ·cast (ap (λ (x : Lit). x .var) q) (arc-var p s t a i), induced-right r σ Arcs l k)
+            (Memᴰ·cast (ap (λ (x : Lit). x .var) q) (arc-var p trip a i), induced-right r σ Arcs l k)
         go (inr k) =
             let (n, i, q) = map-in (modeSays σ) (modesOf (p .modes)) k in
-            (Memᴰ·cast (ap (λ (x : Lit). x .var) q) (mode-var p s t n i), subst (Right r σ) (sym q) refl)
+            (Memᴰ·cast (ap (λ (x : Lit). x .var) q) (mode-var p trip n i), subst (Right r σ) (sym q) refl)
 
     in-joint : (l : Lit) → List·Memᴰ (l .var) Vars → Right r σ l → List·Memᴰ l Joint
     in-joint l m right = go (var-is (l .var) m)
@@ -169,50 +170,50 @@ module _ (p : Plan) (s t : ℕ) where
 
 -- ---- rules met and formulas satisfied
 
-right-met : (p : Plan) (s t : ℕ) (r : List Belt) (σ : ℕ) (T : List Lit) → AllRight r σ T → Satisfies T (Rules p s t)
-    → allMet (p .rules) (passes r) σ ≡ true
-right-met p s t r σ T right h = all-is (met (passes r) σ) (p .rules) one
+right-met : (p : Plan) (trip : Trip) (r : List Belt) (σ : ℕ) (T : List Lit) → AllRight r σ T → Satisfies T (Rules p trip)
+    → works (termsOf p trip) (passes r) σ ≡ true
+right-met p trip r σ T right h = all-is (met (passes r) σ) (p .rules) one
   where
     one : (rule : List Literal) → List·Memᴰ rule (p .rules) → met (passes r) σ rule ≡ true
     one rule m =
-        let (l, k, j) = satisfied-hit T (Rules p s t) h (map litOf rule) (in-map (map litOf) m) in
+        let (l, k, j) = satisfied-hit T (Rules p trip) h (map litOf rule) (in-map (map litOf) m) in
         let (x, i, q) = map-in litOf rule k in
         in-any (holds (passes r) σ) rule i (right-holds r σ x (subst (Right r σ) q (right l j)))
 
-module _ {b : List ℕ} (ok : Accepted b) (s t : ℕ) where
-  met-satisfied : (r : List Belt) (σ : ℕ) → allMet (planOf b .rules) (passes r) σ ≡ true
-      → Satisfies (Joint (planOf b) s t r σ) (Rules (planOf b) s t)
-  met-satisfied r σ h = hit-satisfied (Joint (planOf b) s t r σ) (Rules (planOf b) s t) (joint-consistent (planOf b) s t r σ) one
+module _ {b : List ℕ} (ok : Accepted b) (trip : Trip) where
+  met-satisfied : (r : List Belt) (σ : ℕ) → works (termsOf (planOf b) trip) (passes r) σ ≡ true
+      → Satisfies (Joint (planOf b) trip r σ) (Rules (planOf b) trip)
+  met-satisfied r σ h = hit-satisfied (Joint (planOf b) trip r σ) (Rules (planOf b) trip) (joint-consistent (planOf b) trip r σ) one
     where
-      one : (α : Clause) → List·Memᴰ α (Rules (planOf b) s t) → Hit (Joint (planOf b) s t r σ) α
+      one : (α : Clause) → List·Memᴰ α (Rules (planOf b) trip) → Hit (Joint (planOf b) trip r σ) α
       one α m =
           let (rule, k, q) = map-in (map litOf) (planOf b .rules) m in
           let (l, j, e) = any-some (holds (passes r) σ) rule (all-in (met (passes r) σ) (planOf b .rules) h k) in (
             litOf l,
             subst (List·Memᴰ (litOf l)) (sym q) (in-map litOf j),
-            in-joint (planOf b) s t r σ (litOf l) (names-variable ok s t rule k l j) (holds-right r σ l e),
+            in-joint (planOf b) trip r σ (litOf l) (names-variable ok trip rule k l j) (holds-right r σ l e),
           )
 
 pub met-claim : MetClaim
-met-claim b ok s t r σ =
-    (met-satisfied ok s t r σ, right-met (planOf b) s t r σ (Joint (planOf b) s t r σ) (joint-right (planOf b) s t r σ))
+met-claim b ok trip r σ =
+    (met-satisfied ok trip r σ, right-met (planOf b) trip r σ (Joint (planOf b) trip r σ) (joint-right (planOf b) trip r σ))
 
 -- ---- by the joint assignment
 
-module _ {b : List ℕ} (ok : Accepted b) (s t : ℕ) (r : List Belt) (σ : ℕ) where
-  pub joint-feasible : IsRoute (planOf b) s t r → allMet (planOf b .rules) (passes r) σ ≡ true
-      → FeasibleBy (instanceOf (planOf b) s t) (map arcOf r) (joint (planOf b) (map arcOf r) σ)
+module _ {b : List ℕ} (ok : Accepted b) (trip : Trip) (r : List Belt) (σ : ℕ) where
+  pub joint-feasible : IsRoute (planOf b) (trip .s) (trip .t) r → works (termsOf (planOf b) trip) (passes r) σ ≡ true
+      → FeasibleBy (instanceOf (planOf b) trip) (map arcOf r) (joint (planOf b) (map arcOf r) σ)
   joint-feasible route h = record {
-    path = route-path (planOf b) t s r route;
-    assigns = joint-assigns (planOf b) s t r σ;
-    complete = joint-complete (planOf b) s t r σ;
-    agree = joint-agrees (planOf b) s t r σ;
-    satisfies = met-satisfied ok s t r σ h;
+    path = route-path (planOf b) (trip .t) (trip .s) r route;
+    assigns = joint-assigns (planOf b) trip r σ;
+    complete = joint-complete (planOf b) trip r σ;
+    agree = joint-agrees (planOf b) trip r σ;
+    satisfies = met-satisfied ok trip r σ h;
   }
 
-  pub feasible-joint : FeasibleBy (instanceOf (planOf b) s t) (map arcOf r) (joint (planOf b) (map arcOf r) σ)
-      → IsRoute (planOf b) s t r × (allMet (planOf b .rules) (passes r) σ ≡ true)
-  feasible-joint f = (path-route (planOf b) t s r (f .path), met-claim b ok s t r σ .1 (f .satisfies))
+  pub feasible-joint : FeasibleBy (instanceOf (planOf b) trip) (map arcOf r) (joint (planOf b) (map arcOf r) σ)
+      → IsRoute (planOf b) (trip .s) (trip .t) r × (works (termsOf (planOf b) trip) (passes r) σ ≡ true)
+  feasible-joint f = (path-route (planOf b) (trip .t) (trip .s) r (f .path), met-claim b ok trip r σ .1 (f .satisfies))
 
 -- ---- by any assignment
 
@@ -224,11 +225,11 @@ on-is : (T : List Lit) → Consistent T → (w : Bool) (n : ℕ) → List·Mem�
 on-is T c true n m = in-set (says true (free n)) T m
 on-is T c false n m = not-in (says true (free n)) T (c (says false (free n)) m)
 
-module _ (p : Plan) (s t : ℕ) (r : List Belt) (T : List Lit) (f : FeasibleBy (instanceOf p s t) (map arcOf r) T) where
+module _ (p : Plan) (trip : Trip) (r : List Belt) (T : List Lit) (f : FeasibleBy (instanceOf p trip) (map arcOf r) T) where
   all-right : (σ : ℕ) → ((n : ℕ) → 1 ≤ n → n ≤ p .modes → isOn σ n ≡ onIn T n) → AllRight r σ T
   all-right σ on l m = go (l .positive) (l .var) m
     where
-      mode : (w : Bool) (n : ℕ) → List·Memᴰ (says w (free n)) T → IsVar p s t (free n) → w ≡ isOn σ n
+      mode : (w : Bool) (n : ℕ) → List·Memᴰ (says w (free n)) T → IsVar p trip (free n) → w ≡ isOn σ n
       mode w n m (inl (a, i, q)) = let z : _≡_ {A = ℕ} 0 1 = cc in absurd (omega arith)
       mode w n m (inr (k, i, q)) =
           let e : n ≡ k = cc in
@@ -236,24 +237,23 @@ module _ (p : Plan) (s t : ℕ) (r : List Belt) (T : List Lit) (f : FeasibleBy (
           sym (on n (omega (arith, l, e)) (omega (arith, u, e)) ∙ on-is T (f .assigns .consistent) w n m)
 
       go : (w : Bool) (x : Var) → List·Memᴰ (says w x) T → w ≡ value r σ x
-      go w (graph y) m = induced-right r σ (Arcs p s t) (says w (graph y)) (f .agree w y .0 m)
-      go w (free n) m = mode w n m (var-is p s t (free n) (f .assigns .over (says w (free n)) m))
+      go w (graph y) m = induced-right r σ (Arcs p trip) (says w (graph y)) (f .agree w y .0 m)
+      go w (free n) m = mode w n m (var-is p trip (free n) (f .assigns .over (says w (free n)) m))
 
-  feasible-permitted : Permitted (p .rules) (p .modes) r
+  feasible-permitted : Permitted (termsOf p trip) r
   feasible-permitted =
-      let (σ, low, on) = setting (onIn T) (p .modes) in (σ, low, right-met p s t r σ T (all-right σ on) (f .satisfies))
+      let (σ, low, on) = setting (onIn T) (p .modes) in (σ, low, right-met p trip r σ T (all-right σ on) (f .satisfies))
 
 pub permitted-claim : PermittedClaim
-permitted-claim b ok s t r = (to, back)
+permitted-claim b ok trip r = (to, back)
   where
-    to : IsRoute (planOf b) s t r × Permitted (planOf b .rules) (planOf b .modes) r → Feasible (instanceOf (planOf b) s t) (map arcOf r)
-    to (route, (σ, low, h)) = (joint (planOf b) (map arcOf r) σ, joint-feasible ok s t r σ route h)
+    to : IsPermitted (planOf b) trip r → Feasible (instanceOf (planOf b) trip) (map arcOf r)
+    to (route, (σ, low, h)) = (joint (planOf b) (map arcOf r) σ, joint-feasible ok trip r σ route h)
 
-    back : Feasible (instanceOf (planOf b) s t) (map arcOf r) → IsRoute (planOf b) s t r × Permitted (planOf b .rules) (planOf b .modes) r
-    back (T, f) = (path-route (planOf b) t s r (f .path), feasible-permitted (planOf b) s t r T f)
+    back : Feasible (instanceOf (planOf b) trip) (map arcOf r) → IsPermitted (planOf b) trip r
+    back (T, f) = (path-route (planOf b) (trip .t) (trip .s) r (f .path), feasible-permitted (planOf b) trip r T f)
 
 pub paths-claim : PathsClaim
-paths-claim b ok s t q f =
+paths-claim b ok trip q f =
     let (r, e) = arcs-belts q in
-    let (route, permitted) = permitted-claim b ok s t r .1 (subst (Feasible (instanceOf (planOf b) s t)) e f) in
-    (r, e, route, permitted)
+    (r, e, permitted-claim b ok trip r .1 (subst (Feasible (instanceOf (planOf b) trip)) e f))

@@ -2,32 +2,33 @@
 --
 --   AgreeOn rules x y   the tests x and y agree on the belts that the rules name
 --   met-cong          such tests meet the same rules; lowest-cong: have one lowest setting
---   permitted-same    so have two routes that pass the same of these belts
 --   passes-named      the belts of an accepted plan with these names pass exactly these
 --   known-low         the names of the belts of a Route of an accepted plan are below 2,048
 --   route-placeable   they can be looked up
 --   mask-named        the mask of some belts is of named belts
 --   met-mask          in an accepted plan the mask of a Route meets the rules that the route meets
---   lowest-mask       and has its lowest setting
+--   lowest-mask       and has its lowest setting; mask-claim: this as it is claimed (MaskClaim)
 --
 -- Assumes nothing.
 use mathlib.Core.Path.{_≡_, refl, sym, _∙_, ap, subst}
-use mathlib.Core.Bool.{Bool, Bool·beq}
+use mathlib.Core.Bool.{Bool, _&&_, Bool·beq}
 use Prim.Native.Nat.{ℕ, _^_, _<_}
 use mathlib.Core.List.{List, List·Memᴰ}
+use native.Mathlib.Omega.{arith}
 use Rattle.plan.specs.declared.read.BeltId.{BeltId}
 use Rattle.plan.specs.declared.read.Literal.{Literal}
 use Rattle.plan.specs.declared.read.Literal.the-variants.{OfBelt, OfMode}
 use Rattle.plan.specs.Lists.{mem, run}
 use Rattle.plan.specs.Plan.{Belt, planOf, namesOf, named}
 use Rattle.plan.specs.Reading.{Accepted, IsBelt}
-use Rattle.plan.proofs.Lists.{any-cong, all-cong}
+use Rattle.plan.proofs.Lists.{any-cong, all-cong, map-in}
 use Rattle.plan.proofs.Naming.{names-back, named-rises}
-use Rattle.plan.proofs.Reading.{belt-low}
+use Rattle.plan.proofs.Reading.{belt-of, belt-low}
 use Rattle.route.specs.declared.path.Route.{Route}
 use Rattle.route.specs.Routes.{beltsByName}
-use Rattle.route.specs.Permission.{passes, holds, met, allMet, lowest}
+use Rattle.route.specs.Permission.{passes, holds, met, allMet, Terms, planTerms, termsOf, works, lowest}
 use Rattle.route.specs.Values.{idsOf, Known, routeIn, LowPlace, OfNamed, namedPlaces, Placeable, maskOf, hasBelt}
+use Rattle.route.specs.Claims.{MaskClaim}
 use Rattle.route.proofs.Lowest.{find-cong}
 use Rattle.route.proofs.ByName.{named-map, passes-names}
 use Rattle.route.proofs.Fixed.{place-low, looked-up, gathered-from, gathered-low}
@@ -46,12 +47,9 @@ met-cong rules x y h σ = all-cong (met x σ) (met y σ) rules (λ rule m. any-c
     go rule m (OfBelt e w) k = ap (λ (t : Bool). Bool·beq t w) (h rule m e w k)
     go rule m (OfMode n w) k = refl
 
-lowest-cong : (rules : List (List Literal)) (m : ℕ) (x y : ℕ → Bool) → AgreeOn rules x y → lowest rules m x ≡ lowest rules m y
-lowest-cong rules m x y h = find-cong (allMet rules x) (allMet rules y) (run 0 (2 ^ m)) (λ σ i. met-cong rules x y h σ)
-
-pub permitted-same : (rules : List (List Literal)) (m : ℕ) (x y : List Belt) → AgreeOn rules (passes x) (passes y)
-    → lowest rules m (passes x) ≡ lowest rules m (passes y)
-permitted-same rules m x y h = lowest-cong rules m (passes x) (passes y) h
+pub lowest-cong : (terms : Terms) (x y : ℕ → Bool) → AgreeOn (terms .rules) x y → lowest terms x ≡ lowest terms y
+lowest-cong terms x y h =
+    find-cong (works terms x) (works terms y) (run 0 (2 ^ terms .modes)) (λ σ i. ap (λ (t : Bool). terms .allowed σ && t) (met-cong (terms .rules) x y h σ))
 
 -- ---- the belts of a route
 
@@ -77,6 +75,13 @@ module _ {b : List ℕ} (ok : Accepted b) where
   mask-belt r k e i =
       gathered-from (named-rises b) refl (idsOf r) (known-low r k) e i ∙ sym (passes-named (idsOf r) (k .belts) e)
 
+  -- so does that of any belts of the plan
+  names-low : (r : List Belt) → ((e : Belt) → List·Memᴰ e r → List·Memᴰ e (planOf b .belts)) → (e : ℕ) → List·Memᴰ e (namesOf r) → e < 2048
+  names-low r h e m =
+      let (f, i, q) = map-in (λ (f : Belt). f .name) r m in
+      let low = belt-low ok (f .name) (belt-of ok f (h f i) .0) .2 in
+      omega (arith, low, q)
+
   -- and so of each belt that a rule names
   mask-agrees : (r : Route) → Known b r → AgreeOn (planOf b .rules) (hasBelt b (maskOf b (idsOf r))) (passes (routeIn b r))
   mask-agrees r k rule m e w i = mask-belt r k (e .0) (literal-named ok m e w i)
@@ -85,6 +90,9 @@ module _ {b : List ℕ} (ok : Accepted b) where
       → allMet (planOf b .rules) (hasBelt b (maskOf b (idsOf r))) σ ≡ allMet (planOf b .rules) (passes (routeIn b r)) σ
   met-mask r k σ = met-cong (planOf b .rules) (hasBelt b (maskOf b (idsOf r))) (passes (routeIn b r)) (mask-agrees r k) σ
 
-  pub lowest-mask : (r : Route) → Known b r → (n : ℕ)
-      → lowest (planOf b .rules) n (hasBelt b (maskOf b (idsOf r))) ≡ lowest (planOf b .rules) n (passes (routeIn b r))
-  lowest-mask r k n = lowest-cong (planOf b .rules) n (hasBelt b (maskOf b (idsOf r))) (passes (routeIn b r)) (mask-agrees r k)
+  pub lowest-mask : (r : Route) → Known b r → lowest (planTerms (planOf b)) (hasBelt b (maskOf b (idsOf r))) ≡ lowest (planTerms (planOf b)) (passes (routeIn b r))
+  lowest-mask r k = lowest-cong (planTerms (planOf b)) (hasBelt b (maskOf b (idsOf r))) (passes (routeIn b r)) (mask-agrees r k)
+
+pub mask-claim : MaskClaim
+mask-claim b ok trip r h = lowest-cong (termsOf (planOf b) trip) (hasBelt b (maskOf b (namesOf r))) (passes r) (λ rule m e w i.
+    gathered-from (named-rises b) refl (namesOf r) (names-low ok r h) (e .0) (literal-named ok m e w i) ∙ sym (passes-names r (e .0)))

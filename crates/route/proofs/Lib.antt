@@ -36,3 +36,4 @@ pub mod Forms
 pub mod Checked
 pub mod Solutions
 pub mod Claims
+pub mod Laws

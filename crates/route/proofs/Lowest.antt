@@ -26,7 +26,7 @@ use lib.Dec.{leb}
 use borrow.Author.Tests.{leb-true, leb-false}
 use Rattle.plan.specs.Lists.{run}
 use Rattle.plan.proofs.Lists.{test, never, untrue, run-split}
-use Rattle.route.specs.Permission.{passes, allMet, Permitted, orElse, otherwise, find}
+use Rattle.route.specs.Permission.{passes, works, Permitted, orElse, otherwise, find}
 use Rattle.route.specs.Claims.{LowestClaim}
 use Rattle.route.proofs.Bits.{shifted}
 
@@ -121,25 +121,25 @@ module _ (f : ℕ → Bool) where
 -- ---- settings
 
 pub lowest-claim : LowestClaim
-lowest-claim rules m r = ((λ σ. (to σ, from σ)), (none-to, none-from))
+lowest-claim terms r = ((λ σ. (to σ, from σ)), (none-to, none-from))
   where
     top : ℕ
-    top = 2 ^ m
+    top = 2 ^ terms .modes
 
-    works : ℕ → Bool
-    works σ = allMet rules (passes r) σ
+    work : ℕ → Bool
+    work σ = works terms (passes r) σ
 
-    is : First works 0 top (find works (run 0 top))
-    is = find-run works 0 top
+    is : First work 0 top (find work (run 0 top))
+    is = find-run work 0 top
 
-    to : (σ : ℕ) → find works (run 0 top) ≡ some σ → (σ < top) × (works σ ≡ true) × ((τ : ℕ) → τ < σ → works τ ≡ false)
-    to σ e = let h = subst (First works 0 top) e is in (omega (arith, h .1), h .2, λ τ l. h .3 τ (omega arith) l)
+    to : (σ : ℕ) → find work (run 0 top) ≡ some σ → (σ < top) × (work σ ≡ true) × ((τ : ℕ) → τ < σ → work τ ≡ false)
+    to σ e = let h = subst (First work 0 top) e is in (omega (arith, h .1), h .2, λ τ l. h .3 τ (omega arith) l)
 
-    from : (σ : ℕ) → (σ < top) × (works σ ≡ true) × ((τ : ℕ) → τ < σ → works τ ≡ false) → find works (run 0 top) ≡ some σ
-    from σ h = find-is works 0 top σ (omega arith, omega (arith, h .0), h .1, λ τ l u. h .2 τ u)
+    from : (σ : ℕ) → (σ < top) × (work σ ≡ true) × ((τ : ℕ) → τ < σ → work τ ≡ false) → find work (run 0 top) ≡ some σ
+    from σ h = find-is work 0 top σ (omega arith, omega (arith, h .0), h .1, λ τ l u. h .2 τ u)
 
-    none-to : find works (run 0 top) ≡ none → Permitted rules m r → ⊥
-    none-to e w = never (w .2) (subst (First works 0 top) e is (w .0) (omega arith) (omega (arith, w .1)))
+    none-to : find work (run 0 top) ≡ none → Permitted terms r → ⊥
+    none-to e w = never (w .2) (subst (First work 0 top) e is (w .0) (omega arith) (omega (arith, w .1)))
 
-    none-from : (Permitted rules m r → ⊥) → find works (run 0 top) ≡ none
-    none-from h = find-none works 0 top (λ τ l u. untrue (works τ) (λ t. h (τ, omega (arith, u), t)))
+    none-from : (Permitted terms r → ⊥) → find work (run 0 top) ≡ none
+    none-from h = find-none work 0 top (λ τ l u. untrue (work τ) (λ t. h (τ, omega (arith, u), t)))

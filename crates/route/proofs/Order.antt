@@ -1,6 +1,7 @@
 -- "Comes before" is a strict total order on the routes from s to t.
 --
---   first-eq, first-ne of two numbers and a rest, the rest decides where the numbers are equal, and their order where they are not
+--   first-eq, first-ne, first-gt
+--                      of two numbers and a rest, the rest decides where the numbers are equal, and their order where they are not
 --   before-irrefl      no list comes before itself
 --   before-asym        of two lists at most one comes before the other
 --   before-trans       what comes before one that comes before a third comes before the third
@@ -47,7 +48,7 @@ module _ (m n : ℕ) (x : Bool) where
   first-lt : m < n → first m n x ≡ true
   first-lt h = ap (λ (t : Bool). t || (eqb m n && x)) (lt-ltb m n h)
 
-  first-gt : n < m → first m n x ≡ false
+  pub first-gt : n < m → first m n x ≡ false
   first-gt h = λ i. le-ltb m n (omega arith) i || (ne-eqb m n (λ e. omega arith) i && x)
 
   first-true : first m n x ≡ true → (m < n) ⊎ ((m ≡ n) × (x ≡ true))

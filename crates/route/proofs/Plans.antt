@@ -1,6 +1,6 @@
 -- An accepted plan is an instance of the published problem (specs/Lcsp.antt, specs/Instances.antt).
 --
---   plan-instance   its belts join junctions, no path of them comes back, no two are of one number, and its rules name only its own
+--   instance-is     its belts join junctions, no path of them comes back, no two are of one number, and its rules name only its own
 --                   belts and modes
 --   cost-weight     the cost of a route is the weight of its path
 --   route-path      a route's belts are a path
@@ -22,9 +22,10 @@ use Rattle.plan.specs.Reading.{Accepted}
 use Rattle.plan.proofs.Lists.{in-map, map-in, in-upto}
 use Rattle.plan.proofs.Reading.{belt-in, belt-name, belt-ends, literal-belt, literal-mode}
 use Rattle.route.specs.Lcsp.{free, Lit, Clause, Arc, arcVar, variables, IsPath, IsInstance}
+use Rattle.route.specs.declared.path.Trip.{Trip}
 use Rattle.route.specs.Routes.{IsRoute, cost}
 use Rattle.route.specs.Instances.{arcOf, litOf, modesOf, instanceOf}
-use Rattle.route.specs.Claims.{InstanceClaim, CostClaim}
+use Rattle.route.specs.Claims.{CostClaim}
 
 -- ---- paths and routes
 
@@ -52,21 +53,21 @@ module _ (p : Plan) (t : ℕ) where
 
 -- ---- variables of the instance
 
-module _ (p : Plan) (s t : ℕ) where
-  pub arc-var : (a : Arc) → List·Memᴰ a (map arcOf (p .belts)) → List·Memᴰ (arcVar a) (variables (instanceOf p s t))
+module _ (p : Plan) (trip : Trip) where
+  pub arc-var : (a : Arc) → List·Memᴰ a (map arcOf (p .belts)) → List·Memᴰ (arcVar a) (variables (instanceOf p trip))
   arc-var a m = Memᴰ·append-left (map free (modesOf (p .modes))) (in-map arcVar m)
 
-  pub mode-var : (n : ℕ) → List·Memᴰ n (modesOf (p .modes)) → List·Memᴰ (free n) (variables (instanceOf p s t))
+  pub mode-var : (n : ℕ) → List·Memᴰ n (modesOf (p .modes)) → List·Memᴰ (free n) (variables (instanceOf p trip))
   mode-var n m = Memᴰ·append-right (map arcVar (map arcOf (p .belts))) (in-map free m)
 
-module _ {b : List ℕ} (ok : Accepted b) (s t : ℕ) where
+module _ {b : List ℕ} (ok : Accepted b) (trip : Trip) where
   pub names-variable : (rule : List Literal) → List·Memᴰ rule (planOf b .rules) → (x : Literal) → List·Memᴰ x rule
-      → List·Memᴰ (litOf x .var) (variables (instanceOf (planOf b) s t))
+      → List·Memᴰ (litOf x .var) (variables (instanceOf (planOf b) trip))
   names-variable rule m (OfBelt e wanted) k =
-      arc-var (planOf b) s t (arcOf (beltAt b (e .0))) (in-map arcOf (belt-in ok (e .0) (literal-belt ok rule m e wanted k)))
+      arc-var (planOf b) trip (arcOf (beltAt b (e .0))) (in-map arcOf (belt-in ok (e .0) (literal-belt ok rule m e wanted k)))
   names-variable rule m (OfMode n wanted) k =
       let h = literal-mode ok rule m n wanted k in
-      mode-var (planOf b) s t (n .0) (in-upto 1 (suc (planOf b .modes)) (n .0) (h .0) (omega (arith, h .1)))
+      mode-var (planOf b) trip (n .0) (in-upto 1 (suc (planOf b .modes)) (n .0) (h .0) (omega (arith, h .1)))
 
 -- ---- an accepted plan is an instance
 
@@ -96,33 +97,31 @@ module _ {b : List ℕ} (ok : Accepted b) where
       let number : x .name ≡ y .name = sym (ap (λ (d : Arc). d .number) p) ∙ same ∙ ap (λ (d : Arc). d .number) q in
       p ∙ ap arcOf (belt-name ok x y j k number) ∙ sym q
 
-  node : (j : ℕ) → 1 ≤ j → j ≤ planOf b .junctions → (s t : ℕ) → List·Memᴰ j (instanceOf (planOf b) s t .nodes)
-  node j l u s t = in-upto 1 (suc (planOf b .junctions)) j l (omega arith)
+  node : (j : ℕ) → 1 ≤ j → j ≤ planOf b .junctions → (trip : Trip) → List·Memᴰ j (instanceOf (planOf b) trip .nodes)
+  node j l u trip = in-upto 1 (suc (planOf b .junctions)) j l (omega arith)
 
-  over : (s t : ℕ) (α : Clause) → List·Memᴰ α (instanceOf (planOf b) s t .formula) → (l : Lit) → List·Memᴰ l α
-      → List·Memᴰ (l .var) (variables (instanceOf (planOf b) s t))
-  over s t α m l k =
+  over : (trip : Trip) (α : Clause) → List·Memᴰ α (instanceOf (planOf b) trip .formula) → (l : Lit) → List·Memᴰ l α
+      → List·Memᴰ (l .var) (variables (instanceOf (planOf b) trip))
+  over trip α m l k =
       let (rule, n, q) = map-in (map litOf) (planOf b .rules) m in
       let (x, i, e) = map-in litOf rule (subst (List·Memᴰ l) q k) in
-      subst (λ (y : Lit). List·Memᴰ (y .var) (variables (instanceOf (planOf b) s t))) (sym e) (names-variable ok s t rule n x i)
+      subst (λ (y : Lit). List·Memᴰ (y .var) (variables (instanceOf (planOf b) trip))) (sym e) (names-variable ok trip rule n x i)
 
-  instance-is : (s t : ℕ) → 1 ≤ s → s ≤ planOf b .junctions → 1 ≤ t → t ≤ planOf b .junctions → IsInstance (instanceOf (planOf b) s t)
-  instance-is s t ls us lt ut = record {
+  pub instance-is : (trip : Trip) → 1 ≤ trip .s → trip .s ≤ planOf b .junctions → 1 ≤ trip .t → trip .t ≤ planOf b .junctions
+      → IsInstance (instanceOf (planOf b) trip)
+  instance-is trip ls us lt ut = record {
     joins = joins;
     acyclic = no-cycle;
     bijection = one-number;
-    starts = node s ls us s t;
-    ends = node t lt ut s t;
-    over = over s t;
+    starts = node (trip .s) ls us trip;
+    ends = node (trip .t) lt ut trip;
+    over = over trip;
   }
     where
       joins : (a : Arc) → List·Memᴰ a arcs
-          → List·Memᴰ (a .tail) (instanceOf (planOf b) s t .nodes) × List·Memᴰ (a .head) (instanceOf (planOf b) s t .nodes)
+          → List·Memᴰ (a .tail) (instanceOf (planOf b) trip .nodes) × List·Memᴰ (a .head) (instanceOf (planOf b) trip .nodes)
       joins a m =
           let h = arc-ends a m in
           let top : a .tail ≤ planOf b .junctions = omega (arith, h .1, h .2) in
           let low : 1 ≤ a .head = omega (arith, h .0, h .1) in
-          (node (a .tail) (h .0) top s t, node (a .head) low (h .2) s t)
-
-pub plan-instance : InstanceClaim
-plan-instance b ok = instance-is ok
+          (node (a .tail) (h .0) top trip, node (a .head) low (h .2) trip)

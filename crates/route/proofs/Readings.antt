@@ -28,7 +28,8 @@ use Rattle.plan.specs.Reading.{Bytes}
 use Rattle.plan.proofs.Lists.{both, within-is, is-within, all-in, all-is, map-in, length-run, map-run, in-upto, upto-in}
 use Rattle.plan.proofs.Reading.{field-low}
 use Rattle.route.specs.Sheets.{nextOf, stepsFrom, headOf, sheetOf, Reads, steps, headFits, stepFits, places, inForm, beltsOn, costOn, settingOn}
-use Rattle.route.specs.Claims.{ReadingClaim, OneReadingClaim, RoundTripClaim, ReadBackClaim}
+use Rattle.route.specs.Claims.{ReadingClaim, OneReadingClaim, RoundTripClaim}
+use Rattle.route.specs.Laws.{ReadBackLaw}
 use Rattle.route.specs.Values.{idsOf, packed, bytesOf}
 
 -- ---- the form, by equations
@@ -221,7 +222,7 @@ round-trip h es c σ r =
     subst (λ (g : List ℕ). (inForm g ≡ true) × (beltsOn g ≡ es) × (costOn g ≡ c) × (settingOn g ≡ σ)) (sym (r .written))
     (is-form (sheetOf es c σ) (form-back es c σ (r .short)), belts-back es c σ, cost-back es c σ, setting-back es c σ)
 
-pub read-back : ReadBackClaim
+pub read-back : ReadBackLaw
 read-back v few fits =
     let es : List ℕ = idsOf (v .route) in
     let taken : List BeltId = take (v .route .count) (v .route .belts) in

@@ -1,6 +1,8 @@
 -- Demand 2: what the check accepts are the sheets of feasible solutions, and every sheet of a permitted route is accepted.
 --
 --   fine-sheet, sheet-fine   line 11 is unbroken exactly where the sheet is in the form, names belts, and its setting is below 2^M
+--   numbers-names            the numbers of a route's arcs are the names of its belts
+--   reads-written            the sheet of a route reads as its belts, its cost and its setting
 --   accepted-solved          an accepted sheet reads as a feasible solution
 --   solved-accepted          a sheet that reads as a feasible solution is accepted
 --   check-claim              both (CheckClaim)
@@ -25,18 +27,18 @@ use Rattle.plan.proofs.Naming.{names-back}
 use Rattle.plan.proofs.Reading.{plan-sizes, belt-of, belt-low}
 use Rattle.route.specs.Lcsp.{Arc, weightOf, FeasibleBy}
 use Rattle.route.specs.Routes.{IsRoute, connects, cost, beltsByName}
-use Rattle.route.specs.Permission.{passes, allMet}
+use Rattle.route.specs.Permission.{passes, termsOf, works}
 use Rattle.route.specs.Instances.{arcOf, instanceOf, joint}
 use Rattle.route.specs.Sheets.{sheetOf, Reads, inForm, beltsOn, costOn, settingOn}
-use Rattle.route.specs.Refusals.{Case, broken11, broken12, broken13, broken14, routeOn, queryLines, sheetRefusal}
+use Rattle.route.specs.Refusals.{PlanTrip, Case, planTrip, broken11, broken12, broken13, broken14, routeOn, tripLines, sheetRefusal}
 use Rattle.route.specs.Claims.{ReadsSolved, CheckClaim, WrittenClaim, WriterClaim}
 use Rattle.route.specs.Values.{idsOf, routeIn, bytesOf, caseOf}
 use Rattle.route.proofs.Plans.{arcs-belts, cost-weight}
 use Rattle.route.proofs.Feasible.{joint-feasible, feasible-joint}
-use Rattle.route.proofs.ByName.{named-map, names-belts, named-in, known-belts, connects-route, route-connects, route-belts, route-few, route-cheap, ends-junctions, known-names}
+use Rattle.route.proofs.ByName.{named-map, names-belts, named-in, known-belts, connects-route, route-connects, route-belts, route-few, route-cheap, known-names}
 use Rattle.route.proofs.Lowest.{all-modes, lowest-claim}
 use Rattle.route.proofs.Readings.{round-trip, reading-claim}
-use Rattle.route.proofs.Checked.{Unrefused, zero-unrefused, unrefused-zero, query-accepted, ends-query, inside}
+use Rattle.route.proofs.Checked.{Unrefused, zero-unrefused, unrefused-zero, trip-accepted, trip-ends, ends-inside}
 
 -- ---- line 11
 
@@ -68,14 +70,14 @@ module _ (k : Case) where
 
 -- ---- the numbers of arcs are the names of belts
 
-numbers-names : (r : List Belt) → map (λ (a : Arc). a .number) (map arcOf r) ≡ namesOf r
+pub numbers-names : (r : List Belt) → map (λ (a : Arc). a .number) (map arcOf r) ≡ namesOf r
 numbers-names r = map-map (λ (a : Arc). a .number) arcOf r
 
 -- ---- an accepted sheet reads as a feasible solution
 
 module _ (k : Case) (bytes : Bytes (k .sheet)) (u : Unrefused k) where
   ok : Accepted (k .plan)
-  ok = query-accepted k (u .query)
+  ok = trip-accepted (planTrip k) (u .trip)
 
   fine : FineSheet k
   fine = fine-sheet k (u .fine-11)
@@ -83,11 +85,11 @@ module _ (k : Case) (bytes : Bytes (k .sheet)) (u : Unrefused k) where
   abbrev es : List ℕ
   es = beltsOn (k .sheet)
 
-  route : IsRoute (planOf (k .plan)) (k .s) (k .t) (routeOn k)
+  route : IsRoute (planOf (k .plan)) (k .trip .s) (k .trip .t) (routeOn k)
   unfolding broken12
   route =
-      connects-route ok (k .s) (k .t) (routeOn k) (named-in (planOf (k .plan)) es)
-      (not-false (connects (k .s) (k .t) (routeOn k)) (u .fine-12))
+      connects-route ok (k .trip .s) (k .trip .t) (routeOn k) (named-in (planOf (k .plan)) es)
+      (not-false (connects (k .trip .s) (k .trip .t) (routeOn k)) (u .fine-12))
 
   names : namesOf (routeOn k) ≡ es
   names = ap namesOf (named-map ok es (known-belts ok es (fine .known))) ∙ names-back (k .plan) es
@@ -96,9 +98,9 @@ module _ (k : Case) (bytes : Bytes (k .sheet)) (u : Unrefused k) where
   unfolding broken13
   sum = eqb-true (cost (routeOn k)) (costOn (k .sheet)) (not-false (eqb (cost (routeOn k)) (costOn (k .sheet))) (u .fine-13))
 
-  met : allMet (planOf (k .plan) .rules) (passes (routeOn k)) (settingOn (k .sheet)) ≡ true
+  working : works (termsOf (planOf (k .plan)) (k .trip)) (passes (routeOn k)) (settingOn (k .sheet)) ≡ true
   unfolding broken14
-  met = not-false (allMet (planOf (k .plan) .rules) (passes (routeOn k)) (settingOn (k .sheet))) (u .fine-14)
+  working = not-false (works (termsOf (planOf (k .plan)) (k .trip)) (passes (routeOn k)) (settingOn (k .sheet))) (u .fine-14)
 
   accepted-solved : ReadsSolved k
   accepted-solved = record {
@@ -111,15 +113,15 @@ module _ (k : Case) (bytes : Bytes (k .sheet)) (u : Unrefused k) where
       belts = numbers-names (routeOn k) ∙ names;
       cost = sym (cost-weight (routeOn k)) ∙ sum;
       setting = ltb-true (settingOn (k .sheet)) (2 ^ planOf (k .plan) .modes) (fine .low);
-      feasible = joint-feasible ok (k .s) (k .t) (routeOn k) (settingOn (k .sheet)) route met;
+      feasible = joint-feasible ok (k .trip) (routeOn k) (settingOn (k .sheet)) route working;
     };
   }
 
 -- ---- a sheet that reads as a feasible solution is accepted
 
-module _ (k : Case) (query : Unbroken queryLines k) (x : ReadsSolved k) where
+module _ (k : Case) (trip : Unbroken tripLines (planTrip k)) (x : ReadsSolved k) where
   okay : Accepted (k .plan)
-  okay = query-accepted k query
+  okay = trip-accepted (planTrip k) trip
 
   abbrev p : Plan
   p = planOf (k .plan)
@@ -133,16 +135,16 @@ module _ (k : Case) (query : Unbroken queryLines k) (x : ReadsSolved k) where
   is-path : x .solution .path ≡ map arcOf r
   is-path = arcs-belts (x .solution .path) .1
 
-  holds-for : IsRoute p (k .s) (k .t) r × (allMet (p .rules) (passes r) (x .setting) ≡ true)
+  holds-for : IsRoute p (k .trip .s) (k .trip .t) r × (works (termsOf p (k .trip)) (passes r) (x .setting) ≡ true)
   holds-for =
-      feasible-joint okay (k .s) (k .t) r (x .setting)
-      (subst (λ (q : List Arc). FeasibleBy (instanceOf p (k .s) (k .t)) q (joint p q (x .setting))) is-path (x .solution .feasible))
+      feasible-joint okay (k .trip) r (x .setting)
+      (subst (λ (q : List Arc). FeasibleBy (instanceOf p (k .trip)) q (joint p q (x .setting))) is-path (x .solution .feasible))
 
   names-read : beltsOn (k .sheet) ≡ namesOf r
   names-read = back .1 ∙ sym (x .solution .belts) ∙ ap (map (λ (a : Arc). a .number)) is-path ∙ numbers-names r
 
   read-is : routeOn k ≡ r
-  read-is = ap (beltsByName p) names-read ∙ names-belts okay r (route-belts p (k .s) (k .t) r (holds-for .0))
+  read-is = ap (beltsByName p) names-read ∙ names-belts okay r (route-belts p (k .trip .s) (k .trip .t) r (holds-for .0))
 
   all-known : all (λ (e : ℕ). mem e (namesOf (p .belts))) (beltsOn (k .sheet)) ≡ true
   all-known = all-is (λ (e : ℕ). mem e (namesOf (p .belts))) (beltsOn (k .sheet)) one
@@ -150,12 +152,12 @@ module _ (k : Case) (query : Unbroken queryLines k) (x : ReadsSolved k) where
       one : (e : ℕ) → List·Memᴰ e (beltsOn (k .sheet)) → mem e (namesOf (p .belts)) ≡ true
       one e m =
           let (f, i, q) = map-in (λ (f : Belt). f .name) r (subst (List·Memᴰ e) names-read m) in
-          let n = in-map (λ (f : Belt). f .name) (route-belts p (k .s) (k .t) r (holds-for .0) f i) in
+          let n = in-map (λ (f : Belt). f .name) (route-belts p (k .trip .s) (k .trip .t) r (holds-for .0) f i) in
           ap (λ (n : ℕ). mem n (namesOf (p .belts))) q ∙ in-mem (namesOf (p .belts)) n
 
   fine-route : broken12 k ≡ false
   unfolding broken12
-  fine-route = ap not (ap (connects (k .s) (k .t)) read-is ∙ route-connects p (k .s) (k .t) r (holds-for .0))
+  fine-route = ap not (ap (connects (k .trip .s) (k .trip .t)) read-is ∙ route-connects p (k .trip .s) (k .trip .t) r (holds-for .0))
 
   fine-cost : broken13 k ≡ false
   unfolding broken13
@@ -166,13 +168,13 @@ module _ (k : Case) (query : Unbroken queryLines k) (x : ReadsSolved k) where
 
   fine-rules : broken14 k ≡ false
   unfolding broken14
-  fine-rules = ap not ((λ i. allMet (p .rules) (passes (read-is i)) (back .3 i)) ∙ holds-for .1)
+  fine-rules = ap not ((λ i. works (termsOf p (k .trip)) (passes (read-is i)) (back .3 i)) ∙ holds-for .1)
 
   solved-accepted : sheetRefusal k ≡ 0
   solved-accepted =
       let low : settingOn (k .sheet) < 2 ^ p .modes = subst (λ (n : ℕ). n < 2 ^ p .modes) (sym (back .3)) (x .solution .setting) in
       unrefused-zero k record {
-        query = query;
+        trip = trip;
         fine-11 = sheet-fine k record { form = back .0; known = all-known; low = lt-ltb (settingOn (k .sheet)) (2 ^ p .modes) low };
         fine-12 = fine-route;
         fine-13 = fine-cost;
@@ -181,7 +183,7 @@ module _ (k : Case) (query : Unbroken queryLines k) (x : ReadsSolved k) where
 
 pub check-claim : CheckClaim
 check-claim k bytes =
-    (λ e. let u = zero-unrefused k e in (u .query, accepted-solved k bytes u), λ h. solved-accepted k (h .0) (h .1))
+    (λ e. let u = zero-unrefused k e in (u .trip, accepted-solved k bytes u), λ h. solved-accepted k (h .0) (h .1))
 
 -- ---- the sheet of a permitted route
 
@@ -199,7 +201,7 @@ module _ {b : List ℕ} (good : Accepted b) (plan-bytes : Bytes b) (s t : ℕ) (
   tiny : σ < 65536
   tiny = omega (arith, low, all-modes (planOf b .modes) (plan-sizes good .2))
 
-  reads-written : Reads (sheetOf (namesOf way) (cost way) σ) (namesOf way) (cost way) σ
+  pub reads-written : Reads (sheetOf (namesOf way) (cost way) σ) (namesOf way) (cost way) σ
   reads-written = record {
     written = refl;
     short = omega (arith, few, length-map way (λ (f : Belt). f .name));
@@ -209,28 +211,28 @@ module _ {b : List ℕ} (good : Accepted b) (plan-bytes : Bytes b) (s t : ℕ) (
   }
 
 pub written-claim : WrittenClaim
-written-claim b good bytes s t a c d e r route σ h =
-    let k : Case = record { plan = b; s = s; t = t; sheet = sheetOf (namesOf r) (cost r) σ } in
-    let works = lowest-claim (planOf b .rules) (planOf b .modes) r .0 σ .0 h in
-    solved-accepted k (ends-query k good (inside k a c d e)) record {
+written-claim k fine bytes r route σ h =
+    let b = k .plan in
+    let ok = trip-accepted k fine in
+    let (s-low, s-high, t-low, t-high) = ends-inside k (trip-ends k fine) in
+    let (low, working, first) = lowest-claim (termsOf (planOf b) (k .trip)) r .0 σ .0 h in
+    solved-accepted (caseOf b (k .trip) (sheetOf (namesOf r) (cost r) σ)) fine record {
       belts = namesOf r;
       cost = cost r;
       setting = σ;
-      reads = reads-written good bytes s t a e r route σ (works .0);
+      reads = reads-written ok bytes (k .trip .s) (k .trip .t) s-low t-high r route σ low;
       solution = record {
         path = map arcOf r;
         belts = numbers-names r;
         cost = sym (cost-weight r);
-        setting = works .0;
-        feasible = joint-feasible good s t r σ route (works .1);
+        setting = low;
+        feasible = joint-feasible ok (k .trip) r σ route working;
       };
     }
 
 pub writer-claim : WriterClaim
-writer-claim b good bytes trip ends v known route sum least =
-    let k : Case = caseOf b trip (bytesOf v) in
-    let (a, c, d, e) = ends-junctions (planOf b) (trip .s) (trip .t) ends in
-    let r : List Belt = routeIn b (v .route) in
-    let names : namesOf r ≡ idsOf (v .route) = known-names good (v .route) known in
-    subst (λ (h : List ℕ). sheetRefusal (caseOf b trip h) ≡ 0) (λ i. sheetOf (names i) (sym sum i) (v .setting))
-    (written-claim b good bytes (trip .s) (trip .t) a c d e r route (v .setting) least)
+writer-claim k fine bytes v known route sum least =
+    let r : List Belt = routeIn (k .plan) (v .route) in
+    let names : namesOf r ≡ idsOf (v .route) = known-names (trip-accepted k fine) (v .route) known in
+    subst (λ (h : List ℕ). sheetRefusal (caseOf (k .plan) (k .trip) h) ≡ 0) (λ i. sheetOf (names i) (sym sum i) (v .setting))
+    (written-claim k fine bytes r route (v .setting) least)

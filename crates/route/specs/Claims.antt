@@ -1,17 +1,17 @@
 -- What is claimed of routes, permission and sheets, as types; proofs/Claims.antt proves them all. The contracts of the code say that its
--- answers are what the definitions give; these say what the definitions mean. All are about ALL lists of bytes; `Accepted b` says that
--- b is a plan, `Bytes h` that the elements of h are bytes.
+-- answers are what the definitions give; these say what the definitions mean. All are about ALL lists of bytes and ALL trips; `Accepted b` says
+-- that b is a plan, `Unbroken tripLines k` that moreover the trip k is one that the plan has, `Bytes h` that the elements of h are bytes.
 --
 -- The published definition (source document 000):
 --   OrderFreeClaim     conditioning on an assignment does not depend on its order
---   InstanceClaim      an accepted plan is an instance of the problem
---   MetClaim           every rule is met by a route under a setting exactly when conditioning the plan's formula by their joint
---                      assignment leaves nothing
---   PermittedClaim     a route from s to t is permitted exactly when its path is feasible
+--   InstanceClaim      a trip through a plan, of which no line is broken, is an instance of the problem
+--   MetClaim           a setting works for a route exactly when conditioning the instance's formula by their joint assignment leaves nothing
+--   PermittedClaim     a list of belts is a permitted route of the trip exactly when its path is feasible
 --   PathsClaim         every feasible path is that of a permitted route
 --   CostClaim          the cost of a route is the weight of its path
 -- Routes:
 --   LowestClaim        `lowest` is the lowest setting that works, and there is none exactly when the route is not permitted
+--   MaskClaim          it does not depend on more than which of the named belts a route has: the mask of these has the route's lowest setting
 --   OrderClaim         "comes before" is a strict total order on the routes from s to t
 --   EndsClaim          there is no route from s to t where s > t, and only the empty one where s = t
 --   RoutesClaim        `routes` lists exactly the routes from s to t, each once
@@ -21,15 +21,10 @@
 --                      junction ≤ u and arrives at one > u
 --   EnforcedClaim      so a subproblem admits exactly the routes that each of its required belts restricts in this way and that have no
 --                      forbidden belt
---   BitClaim           bit k of a mask is for the k-th of the named belts
---   MasksClaim         every subproblem of named belts has masks, with the same relaxed routes
---   AnswerClaim        a relaxed route can be tested, written and checked (Holdable): it costs less than costLimit, so a bound of costLimit - 1
---                      drops none; a Route holds it, of at most 255 belts, all of the plan; and out of room that the code put its belts into the
---                      same Route is read
 -- Sheets:
 --   ReadingClaim       bytes are in the form of a sheet exactly when they have a reading, which is what stands in their fields
 --   OneReadingClaim    a sheet has at most one reading
---   RoundTripClaim     a sheet reads as what was written; ReadBackClaim: and the code reads back whatever `sheet::write` may be given
+--   RoundTripClaim     a sheet reads as what was written
 --   FirstRefusalClaim  the check answers n exactly when n is the number of the first broken line, and 0 exactly when none is broken
 --   CheckClaim         DEMAND 2: the check accepts exactly when lines 1 to 8 are unbroken and the sheet reads as belts, cost and setting
 --                      that are a feasible solution (Solution) of the instance
@@ -41,26 +36,21 @@ use mathlib.Core.Path.{_≡_}
 use mathlib.Core.Logic.{_⊎_, _↔_}
 use mathlib.Core.Bool.{true, false}
 use mathlib.Core.Option.{none, some}
-use Prim.Native.Nat.{ℕ, _-_, _/_, _%_, _^_, _≤_, _<_}
+use Prim.Native.Nat.{ℕ, _^_, _≤_, _<_}
 use mathlib.Core.List.{List, [], _++_, map, List·Memᴰ}
-use lib.ListN.{length, getD}
-use lib.Dec.{eqb}
-use Rattle.plan.specs.Lists.{mem}
-use Rattle.plan.specs.Plan.{Belt, planOf, namesOf, named}
+use Rattle.plan.specs.Plan.{Belt, planOf, namesOf}
 use Rattle.plan.specs.Claims.{Unbroken, FirstIn}
 use Rattle.plan.specs.Reading.{Accepted, Bytes}
 use Rattle.route.specs.Lcsp.{Var, Lit, Formula, IsAssignment, _givenAll_, Satisfies, Arc, IsInstance, weightOf, FeasibleBy, Feasible}
-use Rattle.plan.specs.declared.read.Literal.{Literal}
 use Rattle.route.specs.declared.path.Trip.{Trip}
 use Rattle.route.specs.declared.sheet.Sheet.{Sheet}
-use Rattle.route.specs.Routes.{wrongEnds, IsRoute, cost, costLimit, before, routes, Distinct}
-use Rattle.route.specs.Permission.{passes, allMet, Permitted, lowest}
+use Rattle.route.specs.Routes.{IsRoute, cost, before, routes, Distinct}
+use Rattle.route.specs.Permission.{passes, Terms, termsOf, works, Permitted, IsPermitted, lowest}
 use Rattle.route.specs.Subproblems.{Subproblem, admits, relaxed, Restricts}
 use Rattle.route.specs.Instances.{arcOf, instanceOf, joint}
 use Rattle.route.specs.Sheets.{sheetOf, Reads, inForm, beltsOn, costOn, settingOn}
-use Rattle.route.specs.Refusals.{Case, queryLines, checkLines, sheetRefusal}
-use Rattle.route.specs.declared.relax.Fixings.{Fixings}
-use Rattle.route.specs.Values.{idsOf, packed, Known, routeIn, sheetIn, bytesOf, fixedIn, OfNamed, subproblemIn, routeOf, firstBelts, atMost, keptOf, caseOf}
+use Rattle.route.specs.Refusals.{PlanTrip, Case, planTrip, tripLines, checkLines, sheetRefusal}
+use Rattle.route.specs.Values.{Known, routeIn, bytesOf, maskOf, hasBelt, caseOf}
 
 -- ---- the published definition
 
@@ -69,20 +59,19 @@ OrderFreeClaim = (X : List Var) (T U : List Lit) (Φ : Formula) → IsAssignment
     → ((l : Lit) → List·Memᴰ l T ↔ List·Memᴰ l U) → Φ givenAll T ≡ Φ givenAll U
 
 abbrev pub InstanceClaim : Type 0
-InstanceClaim = (b : List ℕ) → Accepted b → (s t : ℕ) → 1 ≤ s → s ≤ planOf b .junctions → 1 ≤ t → t ≤ planOf b .junctions
-    → IsInstance (instanceOf (planOf b) s t)
+InstanceClaim = (k : PlanTrip) → Unbroken tripLines k → IsInstance (instanceOf (planOf (k .plan)) (k .trip))
 
 abbrev pub MetClaim : Type 0
-MetClaim = (b : List ℕ) → Accepted b → (s t : ℕ) (r : List Belt) (σ : ℕ)
-    → (allMet (planOf b .rules) (passes r) σ ≡ true) ↔ Satisfies (joint (planOf b) (map arcOf r) σ) (instanceOf (planOf b) s t .formula)
+MetClaim = (b : List ℕ) → Accepted b → (trip : Trip) (r : List Belt) (σ : ℕ)
+    → (works (termsOf (planOf b) trip) (passes r) σ ≡ true) ↔ Satisfies (joint (planOf b) (map arcOf r) σ) (instanceOf (planOf b) trip .formula)
 
 abbrev pub PermittedClaim : Type 0
-PermittedClaim = (b : List ℕ) → Accepted b → (s t : ℕ) (r : List Belt)
-    → (IsRoute (planOf b) s t r × Permitted (planOf b .rules) (planOf b .modes) r) ↔ Feasible (instanceOf (planOf b) s t) (map arcOf r)
+PermittedClaim = (b : List ℕ) → Accepted b → (trip : Trip) (r : List Belt)
+    → IsPermitted (planOf b) trip r ↔ Feasible (instanceOf (planOf b) trip) (map arcOf r)
 
 abbrev pub PathsClaim : Type 0
-PathsClaim = (b : List ℕ) → Accepted b → (s t : ℕ) (q : List Arc) → Feasible (instanceOf (planOf b) s t) q
-    → (r : List Belt) × (q ≡ map arcOf r) × IsRoute (planOf b) s t r × Permitted (planOf b .rules) (planOf b .modes) r
+PathsClaim = (b : List ℕ) → Accepted b → (trip : Trip) (q : List Arc) → Feasible (instanceOf (planOf b) trip) q
+    → (r : List Belt) × (q ≡ map arcOf r) × IsPermitted (planOf b) trip r
 
 abbrev pub CostClaim : Type 0
 CostClaim = (r : List Belt) → cost r ≡ weightOf (map arcOf r)
@@ -90,10 +79,14 @@ CostClaim = (r : List Belt) → cost r ≡ weightOf (map arcOf r)
 -- ---- routes
 
 abbrev pub LowestClaim : Type 0
-LowestClaim = (rules : List (List Literal)) (m : ℕ) (r : List Belt) →
-    ((σ : ℕ) → (lowest rules m (passes r) ≡ some σ)
-    ↔ ((σ < 2 ^ m) × (allMet rules (passes r) σ ≡ true) × ((τ : ℕ) → τ < σ → allMet rules (passes r) τ ≡ false)))
-    × ((lowest rules m (passes r) ≡ none) ↔ (Permitted rules m r → ⊥))
+LowestClaim = (terms : Terms) (r : List Belt) →
+    ((σ : ℕ) → (lowest terms (passes r) ≡ some σ)
+    ↔ ((σ < 2 ^ terms .modes) × (works terms (passes r) σ ≡ true) × ((τ : ℕ) → τ < σ → works terms (passes r) τ ≡ false)))
+    × ((lowest terms (passes r) ≡ none) ↔ (Permitted terms r → ⊥))
+
+abbrev pub MaskClaim : Type 0
+MaskClaim = (b : List ℕ) → Accepted b → (trip : Trip) (r : List Belt) → ((e : Belt) → List·Memᴰ e r → List·Memᴰ e (planOf b .belts))
+    → lowest (termsOf (planOf b) trip) (hasBelt b (maskOf b (namesOf r))) ≡ lowest (termsOf (planOf b) trip) (passes r)
 
 -- irreflexive, transitive, and of two different routes one comes before the other; and no route goes on where another ends, so that
 -- two different ones have a first difference
@@ -131,28 +124,6 @@ EnforcedClaim = (b : List ℕ) → Accepted b → (s t : ℕ) (r : List Belt) �
     ↔ (((g : Belt) → List·Memᴰ g (planOf b .belts) → List·Memᴰ (g .name) (x .required) → Restricts s t g r)
     × ((e : ℕ) → List·Memᴰ e (x .forbidden) → passes r e ≡ false))
 
-abbrev pub BitClaim : Type 0
-BitClaim = (b : List ℕ) (m k : ℕ) → k < length (named (planOf b))
-    → mem (getD (named (planOf b)) k 0) (fixedIn (named (planOf b)) m) ≡ eqb (m / 2 ^ k % 2) 1
-
-abbrev pub MasksClaim : Type 0
-MasksClaim = (b : List ℕ) → Accepted b → (x : Subproblem)
-    → ((e : ℕ) → List·Memᴰ e (x .required) → List·Memᴰ e (named (planOf b))) → ((e : ℕ) → List·Memᴰ e (x .forbidden) → List·Memᴰ e (named (planOf b)))
-    → (f : Fixings) × OfNamed b (f .required) × OfNamed b (f .forbidden)
-    × ((s t : ℕ) → relaxed (planOf b) s t (subproblemIn b f) ≡ relaxed (planOf b) s t x)
-
-pub record Holdable (b : List ℕ) (r : List Belt) : Type 0 where
-  pub cheap : cost r < costLimit
-  pub within : atMost (costLimit - 1) (some r) ≡ some r
-  pub known : Known b (routeOf r)
-  pub names : idsOf (routeOf r) ≡ namesOf r
-  pub same : routeIn b (routeOf r) ≡ r
-  pub back : (room : List ℕ) → length room ≡ 255 → firstBelts (length r) (keptOf (some r) room) ≡ routeOf r
-
-abbrev pub AnswerClaim : Type 0
-AnswerClaim = (b : List ℕ) → Accepted b → Bytes b → (s t : ℕ) → 1 ≤ s → t ≤ planOf b .junctions → (x : Subproblem) (r : List Belt)
-    → relaxed (planOf b) s t x ≡ some r → Holdable b r
-
 -- ---- sheets
 
 abbrev pub ReadingClaim : Type 0
@@ -164,21 +135,17 @@ OneReadingClaim = (h es fs : List ℕ) (c d σ τ : ℕ) → Reads h es c σ →
 abbrev pub RoundTripClaim : Type 0
 RoundTripClaim = (h es : List ℕ) (c σ : ℕ) → Reads h es c σ → (inForm h ≡ true) × (beltsOn h ≡ es) × (costOn h ≡ c) × (settingOn h ≡ σ)
 
-abbrev pub ReadBackClaim : Type 0
-ReadBackClaim = (v : Sheet) → v .route .count ≤ 255 → v .cost < costLimit
-    → (inForm (bytesOf v) ≡ true) × (sheetIn (bytesOf v) ≡ record { route = packed (idsOf (v .route)); cost = v .cost; setting = v .setting })
-
 abbrev pub FirstRefusalClaim : Type 0
 FirstRefusalClaim = (k : Case) (n : ℕ) → (sheetRefusal k ≡ n) ↔ (((n ≡ 0) × Unbroken checkLines k) ⊎ FirstIn checkLines k n)
 
--- the belts es, the cost c and the setting σ are a feasible solution of the instance of plan b from s to t: σ is a setting of the plan's
+-- the belts es, the cost c and the setting σ are a feasible solution of the instance of a trip through plan b: σ is a setting of the plan's
 -- modes, there is a path of these arcs and this weight, and by the joint assignment of path and setting it is feasible
-pub record Solution (b : List ℕ) (s t : ℕ) (es : List ℕ) (c σ : ℕ) : Type 0 where
+pub record Solution (b : List ℕ) (trip : Trip) (es : List ℕ) (c σ : ℕ) : Type 0 where
   pub path : List Arc
   pub belts : map (λ (a : Arc). a .number) path ≡ es
   pub cost : weightOf path ≡ c
   pub setting : σ < 2 ^ planOf b .modes
-  pub feasible : FeasibleBy (instanceOf (planOf b) s t) path (joint (planOf b) path σ)
+  pub feasible : FeasibleBy (instanceOf (planOf b) trip) path (joint (planOf b) path σ)
 
 -- a reading of the sheet that is a feasible solution
 pub record ReadsSolved (k : Case) : Type 0 where
@@ -186,21 +153,22 @@ pub record ReadsSolved (k : Case) : Type 0 where
   pub cost : ℕ
   pub setting : ℕ
   pub reads : Reads (k .sheet) belts cost setting
-  pub solution : Solution (k .plan) (k .s) (k .t) belts cost setting
+  pub solution : Solution (k .plan) (k .trip) belts cost setting
 
 abbrev pub CheckClaim : Type 0
-CheckClaim = (k : Case) → Bytes (k .sheet) → (sheetRefusal k ≡ 0) ↔ (Unbroken queryLines k × ReadsSolved k)
+CheckClaim = (k : Case) → Bytes (k .sheet) → (sheetRefusal k ≡ 0) ↔ (Unbroken tripLines (planTrip k) × ReadsSolved k)
 
 abbrev pub WrittenClaim : Type 0
-WrittenClaim = (b : List ℕ) → Accepted b → Bytes b → (s t : ℕ) → 1 ≤ s → s ≤ planOf b .junctions → 1 ≤ t → t ≤ planOf b .junctions
-    → (r : List Belt) → IsRoute (planOf b) s t r → (σ : ℕ) → lowest (planOf b .rules) (planOf b .modes) (passes r) ≡ some σ
-    → sheetRefusal (record { plan = b; s = s; t = t; sheet = sheetOf (namesOf r) (cost r) σ }) ≡ 0
+WrittenClaim = (k : PlanTrip) → Unbroken tripLines k → Bytes (k .plan) → (r : List Belt) → IsRoute (planOf (k .plan)) (k .trip .s) (k .trip .t) r
+    → (σ : ℕ) → lowest (termsOf (planOf (k .plan)) (k .trip)) (passes r) ≡ some σ
+    → sheetRefusal (caseOf (k .plan) (k .trip) (sheetOf (namesOf r) (cost r) σ)) ≡ 0
 
 abbrev pub WriterClaim : Type 0
-WriterClaim = (b : List ℕ) → Accepted b → Bytes b → (trip : Trip) → wrongEnds (planOf b) (trip .s) (trip .t) ≡ false
-    → (v : Sheet) → Known b (v .route) → IsRoute (planOf b) (trip .s) (trip .t) (routeIn b (v .route)) → v .cost ≡ cost (routeIn b (v .route))
-    → lowest (planOf b .rules) (planOf b .modes) (passes (routeIn b (v .route))) ≡ some (v .setting)
-    → sheetRefusal (caseOf b trip (bytesOf v)) ≡ 0
+WriterClaim = (k : PlanTrip) → Unbroken tripLines k → Bytes (k .plan) → (v : Sheet) → Known (k .plan) (v .route)
+    → IsRoute (planOf (k .plan)) (k .trip .s) (k .trip .t) (routeIn (k .plan) (v .route))
+    → v .cost ≡ cost (routeIn (k .plan) (v .route))
+    → lowest (termsOf (planOf (k .plan)) (k .trip)) (passes (routeIn (k .plan) (v .route))) ≡ some (v .setting)
+    → sheetRefusal (caseOf (k .plan) (k .trip) (bytesOf v)) ≡ 0
 
 -- all of them
 pub record Claims : Type 0 where
@@ -211,19 +179,16 @@ pub record Claims : Type 0 where
   pub paths : PathsClaim
   pub cost : CostClaim
   pub lowest : LowestClaim
+  pub mask : MaskClaim
   pub order : OrderClaim
   pub ends : EndsClaim
   pub routes : RoutesClaim
   pub relaxed : RelaxedClaim
   pub cut : CutClaim
   pub enforced : EnforcedClaim
-  pub bit : BitClaim
-  pub masks : MasksClaim
-  pub answer : AnswerClaim
   pub reading : ReadingClaim
   pub one-reading : OneReadingClaim
   pub round-trip : RoundTripClaim
-  pub read-back : ReadBackClaim
   pub first-refusal : FirstRefusalClaim
   pub check : CheckClaim
   pub written : WrittenClaim

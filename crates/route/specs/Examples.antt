@@ -15,7 +15,8 @@ use Rattle.plan.specs.Refusals.{broken1, broken2, broken3, broken4, broken5, br
 use Rattle.plan.specs.Examples.{planP}
 use Rattle.route.specs.Lcsp.{_givenAll_}
 use Rattle.route.specs.Routes.{before, routes, beltsByName}
-use Rattle.route.specs.Permission.{passes, lowest}
+use Rattle.route.specs.declared.path.Trip.{Trip}
+use Rattle.route.specs.Permission.{passes, planTerms, lowest}
 use Rattle.route.specs.Subproblems.{Subproblem, relaxed}
 use Rattle.route.specs.Instances.{arcOf, instanceOf, joint}
 use Rattle.route.specs.Sheets.{sheetOf, inForm}
@@ -44,8 +45,11 @@ cheaper = refl
 
 -- ---- permission
 
+abbrev from-1-to-3 : Trip
+from-1-to-3 = record { s = 1; t = 3 }
+
 abbrev lowestOf : List ℕ → List ℕ → mathlib.Core.Option.Option ℕ
-lowestOf b es = lowest (planOf b .rules) (planOf b .modes) (passes (beltsByName (planOf b) es))
+lowestOf b es = lowest (planTerms (planOf b)) (passes (beltsByName (planOf b) es))
 
 -- the rule: not belt 4, or not belt 6
 P-5 : lowestOf planP (5 ∷ []) ≡ some 0
@@ -57,11 +61,11 @@ unfolding planP planOf
 P-4-6 = refl
 
 -- conditioning by the joint assignment of belt 5 and setting 0 leaves nothing; that of belts 4 and 6 leaves the empty clause
-P-5-leaves : instanceOf (planOf planP) 1 3 .formula givenAll joint (planOf planP) (map arcOf (beltsByName (planOf planP) (5 ∷ []))) 0 ≡ []
+P-5-leaves : instanceOf (planOf planP) from-1-to-3 .formula givenAll joint (planOf planP) (map arcOf (beltsByName (planOf planP) (5 ∷ []))) 0 ≡ []
 unfolding planP planOf
 P-5-leaves = refl
 
-P-4-6-leaves : instanceOf (planOf planP) 1 3 .formula givenAll joint (planOf planP) (map arcOf (beltsByName (planOf planP) (4 ∷ 6 ∷ []))) 1 ≡ [] ∷ []
+P-4-6-leaves : instanceOf (planOf planP) from-1-to-3 .formula givenAll joint (planOf planP) (map arcOf (beltsByName (planOf planP) (4 ∷ 6 ∷ []))) 1 ≡ [] ∷ []
 unfolding planP planOf
 P-4-6-leaves = refl
 
@@ -197,7 +201,7 @@ written-two = refl
 
 -- the check of P, from 1 to 3: E1's sheet is accepted; belts 4 and 6 break the rule; a high field of the cost counts
 abbrev checkP : List ℕ → ℕ
-checkP h = sheetRefusal (record { plan = planP; s = 1; t = 3; sheet = h })
+checkP h = sheetRefusal (record { plan = planP; trip = from-1-to-3; sheet = h })
 
 accepted : checkP sheetP ≡ 0
 unfolding planP sheetP inForm broken1 broken2 broken3 broken4 broken5 broken6 broken7 broken8 broken11 broken12 broken13 broken14 rowOf fits linksAt links planOf named sheetRefusal

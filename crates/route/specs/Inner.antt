@@ -6,7 +6,7 @@
 --   isTrue on c     the literal of code c holds, where the mask `on` has the variables that are on
 --   stores f l is   the array l with f i at place i, for each i of the list `is`
 --   lowerIds es fs  `lower` of routes with the names es and fs
---   contentRefusal p s t v
+--   contentRefusal p trip v
 --                   the first broken one of lines 11 to 14 (sheetBy), or 0, by what a sheet in the form says
 -- The relaxed route, found from t backwards:
 --   Lent b places ends arcs
@@ -55,10 +55,11 @@ use Rattle.plan.specs.Reading.{Accepted}
 use Rattle.plan.specs.declared.read.Literal.{Literal}
 use Rattle.plan.specs.declared.read.Literal.the-variants.{OfBelt, OfMode}
 use Rattle.route.specs.declared.sheet.Sheet.{Sheet}
+use Rattle.route.specs.declared.path.Trip.{Trip}
 use Rattle.route.specs.declared.relax.Fixings.{Fixings}
 use Rattle.route.specs.declared.relax.Way.{Way}
 use Rattle.route.specs.Routes.{connects, cost, costLimit, first, beltsByName}
-use Rattle.route.specs.Permission.{passes, allMet}
+use Rattle.route.specs.Permission.{passes, termsOf, works}
 use Rattle.route.specs.Subproblems.{Subproblem, relaxed}
 use Rattle.route.specs.Values.{idsOf, subproblemIn, namedPlaces}
 
@@ -90,14 +91,14 @@ stores f l (i ∷ is) = stores f (set l i (f i)) is
 abbrev pub sheetBy : Bool → Bool → Bool → Bool → ℕ
 sheetBy a b c d = elim a [ true ↦ 11 | false ↦ elim b [ true ↦ 12 | false ↦ elim c [ true ↦ 13 | false ↦ elim d [ true ↦ 14 | false ↦ 0 ] ] ] ]
 
-abbrev pub contentRefusal : Plan → ℕ → ℕ → Sheet → ℕ
-contentRefusal p s t v =
+abbrev pub contentRefusal : Plan → Trip → Sheet → ℕ
+contentRefusal p trip v =
     let r = beltsByName p (idsOf (v .route)) in
     sheetBy
     (not (all (λ (e : ℕ). mem e (namesOf (p .belts))) (idsOf (v .route)) && ltb (v .setting) (2 ^ p .modes)))
-    (not (connects s t r))
+    (not (connects (trip .s) (trip .t) r))
     (not (eqb (cost r) (v .cost)))
-    (not (allMet (p .rules) (passes r) (v .setting)))
+    (not (works (termsOf p trip) (passes r) (v .setting)))
 
 -- ---- the relaxed route
 

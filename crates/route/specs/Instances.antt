@@ -2,7 +2,7 @@
 -- rules the clauses.
 --
 --   arcOf e           the arc of a belt; litOf l: the literal of 000 that a literal of a rule is
---   instanceOf p s t  the instance of plan p, from s to t
+--   instanceOf p trip the instance of a trip through plan p: the clauses are the rules to be met
 --   settled m σ       the literals of the free variables under the setting σ of m modes
 --   joint p q σ       the joint assignment of a path q and a setting σ: what q induces over all belts, and what σ sets
 --
@@ -14,7 +14,8 @@ use Rattle.plan.specs.declared.read.Literal.the-variants.{OfBelt, OfMode}
 use Rattle.plan.specs.Lists.{upto}
 use Rattle.plan.specs.Plan.{Belt, Plan}
 use Rattle.route.specs.Lcsp.{Arc, Lit, Instance, graph, free, induced}
-use Rattle.route.specs.Permission.{isOn}
+use Rattle.route.specs.declared.path.Trip.{Trip}
+use Rattle.route.specs.Permission.{isOn, termsOf}
 
 abbrev pub arcOf : Belt → Arc
 arcOf e = record { number = e .name; tail = e .leaves; head = e .leads; weight = e .cost }
@@ -26,14 +27,14 @@ litOf (OfMode m wanted) = record { positive = wanted; var = free (m .0) }
 abbrev pub modesOf : ℕ → List ℕ
 modesOf m = upto 1 (suc m)
 
-abbrev pub instanceOf : Plan → ℕ → ℕ → Instance
-instanceOf p s t = record {
+abbrev pub instanceOf : Plan → Trip → Instance
+instanceOf p trip = record {
   nodes = upto 1 (suc (p .junctions));
   arcs = map arcOf (p .belts);
   frees = modesOf (p .modes);
-  formula = map (map litOf) (p .rules);
-  s = s;
-  t = t;
+  formula = map (map litOf) (termsOf p trip .rules);
+  s = trip .s;
+  t = trip .t;
 }
 
 abbrev pub settled : ℕ → ℕ → List Lit

@@ -1,4 +1,5 @@
--- In the order in which to read them. Lcsp stands by itself: it is the published definition. `Inner` is for the contracts of private functions alone.
+-- In the order in which to read them. Lcsp stands by itself: it is the published definition. `Laws` is what the layers above go by, `Inner` is for
+-- the contracts of private functions alone.
 pub mod Lcsp
 pub mod Routes
 pub mod Permission
@@ -8,5 +9,6 @@ pub mod Sheets
 pub mod Refusals
 pub mod Values
 pub mod Claims
+pub mod Laws
 pub mod Inner
 pub mod Examples

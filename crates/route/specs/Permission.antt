@@ -6,22 +6,30 @@
 --                       Which belts are on the route is told by the test `on`
 --   met on σ rule       some literal of the rule holds; so a rule without literals is never met
 --   allMet rules on σ   every rule is met
---   Permitted rules m r some setting of all the m modes meets every rule
---   lowest rules m on   the lowest setting that works, if one does: of the settings 0, 1, .. below 2^m the first. It is the one found by
---                       trying the highest mode off before on, and each lower mode inside it
+--   Terms               what permission is asked under: the rules to be met, the number of modes, and which settings may be chosen
+--   planTerms p         the terms of a plan by itself: all its rules and modes, any setting
+--   termsOf p trip      THE TERMS of a trip through a plan
+--   works terms on σ    the setting σ may be chosen, and under it every rule is met
+--   Permitted terms r   some setting of all the modes works
+--   IsPermitted p trip r
+--                       r is a route of the trip, and permitted under its terms
+--   lowest terms on     the lowest setting that works, if one does: of the settings 0, 1, .. below 2^m, for m modes, the first. It is the
+--                       one found by trying the highest mode off before on, and each lower mode inside it
 --   find f xs           the first of xs that passes; otherwise o w: o, and w where o is none
 --
--- The rules to be met are an argument; those of a plan are `p .rules`. Assumes nothing.
+-- `Trip`, from s to t, is declared by the code (src/path.rt). Assumes nothing.
 use mathlib.Core.Path.{_≡_}
 use Prim.Native.Nat.{ℕ, _-_, _/_, _%_, _^_, _<_}
-use mathlib.Core.Bool.{Bool, true, false, Bool·beq}
+use mathlib.Core.Bool.{Bool, true, false, _&&_, Bool·beq}
 use mathlib.Core.Option.{Option, none, some}
 use mathlib.Core.List.{List, [], _∷_}
 use lib.Dec.{eqb}
 use Rattle.plan.specs.declared.read.Literal.{Literal}
 use Rattle.plan.specs.declared.read.Literal.the-variants.{OfBelt, OfMode}
 use Rattle.plan.specs.Lists.{any, all, run}
-use Rattle.plan.specs.Plan.{Belt}
+use Rattle.plan.specs.Plan.{Belt, Plan}
+use Rattle.route.specs.declared.path.Trip.{Trip}
+use Rattle.route.specs.Routes.{IsRoute}
 
 abbrev pub passes : List Belt → ℕ → Bool
 passes r e = any (λ (f : Belt). eqb (f .name) e) r
@@ -39,8 +47,30 @@ met on σ rule = any (holds on σ) rule
 abbrev pub allMet : List (List Literal) → (ℕ → Bool) → ℕ → Bool
 allMet rules on σ = all (met on σ) rules
 
-abbrev pub Permitted : List (List Literal) → ℕ → List Belt → Type 0
-Permitted rules m r = (σ : ℕ) × (σ < 2 ^ m) × (allMet rules (passes r) σ ≡ true)
+-- ---- what permission is asked under
+
+pub record Terms : Type 0 where
+  pub rules : List (List Literal)
+  pub modes : ℕ
+  pub allowed : ℕ → Bool
+
+abbrev pub planTerms : Plan → Terms
+planTerms p = record { rules = p .rules; modes = p .modes; allowed = λ (σ : ℕ). true }
+
+-- nothing of a trip restricts them
+abbrev pub termsOf : Plan → Trip → Terms
+termsOf p trip = planTerms p
+
+abbrev pub works : Terms → (ℕ → Bool) → ℕ → Bool
+works terms on σ = terms .allowed σ && allMet (terms .rules) on σ
+
+abbrev pub Permitted : Terms → List Belt → Type 0
+Permitted terms r = (σ : ℕ) × (σ < 2 ^ terms .modes) × (works terms (passes r) σ ≡ true)
+
+abbrev pub IsPermitted : Plan → Trip → List Belt → Type 0
+IsPermitted p trip r = IsRoute p (trip .s) (trip .t) r × Permitted (termsOf p trip) r
+
+-- ---- the lowest setting
 
 abbrev pub orElse : {A : Type 0} → Bool → A → Option A → Option A
 orElse true x o = some x
@@ -54,5 +84,5 @@ abbrev pub find : {A : Type 0} → (A → Bool) → List A → Option A
 find f [] = none
 find f (x ∷ xs) = orElse (f x) x (find f xs)
 
-abbrev pub lowest : List (List Literal) → ℕ → (ℕ → Bool) → Option ℕ
-lowest rules m on = find (allMet rules on) (run 0 (2 ^ m))
+abbrev pub lowest : Terms → (ℕ → Bool) → Option ℕ
+lowest terms on = find (works terms on) (run 0 (2 ^ terms .modes))

@@ -194,4 +194,4 @@ pub record Clauses (b cs : List ℕ) : Type 0 where
 -- ---- the sheet check
 
 abbrev pub caseOf : List ℕ → Trip → List ℕ → Case
-caseOf b trip h = record { plan = b; s = trip .s; t = trip .t; sheet = h }
+caseOf b trip h = record { plan = b; trip = trip; sheet = h }

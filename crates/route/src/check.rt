@@ -9,10 +9,12 @@ use plan::read;
 use plan::refusal;
 use plan::refusal::Refusal;
 ghost use mathlib.Core.Path.{_≡_};
+ghost use mathlib.Core.Bool.{false};
 ghost use Prim.Native.Nat.{_^_, _≤_};
 ghost use lib.Dec.{ltb};
 ghost use Rattle.plan.specs.Plan.{planOf};
 ghost use Rattle.plan.specs.Reading.{Accepted};
+ghost use Rattle.route.specs.Routes.{wrongEnds};
 ghost use Rattle.route.specs.Refusals.{sheetNumber, sheetRefusal};
 ghost use Rattle.route.specs.Values.{caseOf};
 ghost use Rattle.route.specs.Inner.{contentRefusal};
@@ -32,9 +34,11 @@ fn is_setting(p: &[u8], setting: u16) -> bool
 }
 
 // Lines 11 to 14, of what a sheet in the form holds.
-fn check_content(p: &[u8], s: usize, t: usize, sheet: Sheet) -> SheetVerdict
-    requires { ⌜ Accepted (now p) × (1 ≤ s) × (s ≤ planOf (now p) .junctions) × (sheet .route .count ≤ 255) ⌝ }
-    ensures { λ v. ⌜ sheetNumber v ≡ contentRefusal (planOf (now (p .entry))) s t sheet ⌝ }
+fn check_content(p: &[u8], trip: Trip, sheet: Sheet) -> SheetVerdict
+    requires { ⌜ Accepted (now p)
+        × (wrongEnds (planOf (now p)) (trip .s) (trip .t) ≡ false)
+        × (sheet .route .count ≤ 255) ⌝ }
+    ensures { λ v. ⌜ sheetNumber v ≡ contentRefusal (planOf (now (p .entry))) trip sheet ⌝ }
 {
     let route = sheet.route;
     if !path::are_belts(p, route) {
@@ -43,7 +47,7 @@ fn check_content(p: &[u8], s: usize, t: usize, sheet: Sheet) -> SheetVerdict
     if !is_setting(p, sheet.setting) {
         return SheetVerdict::Refused(Refusal::WrongSheet);
     }
-    if !path::connects(p, route, s, t) {
+    if !path::connects(p, route, trip.s as usize, trip.t as usize) {
         return SheetVerdict::Refused(Refusal::NotARoute);
     }
     if path::cost(p, route) != sheet.cost {
@@ -69,7 +73,7 @@ pub fn check(p: &[u8], trip: Trip, h: &[u8]) -> SheetVerdict
     if !sheet::in_form(h) {
         return SheetVerdict::Refused(Refusal::WrongSheet);
     }
-    check_content(p, trip.s as usize, trip.t as usize, sheet::read(h))
+    check_content(p, trip, sheet::read(h))
 }
 
 // The number of the broken line, 0 where the sheet is accepted.

@@ -7,7 +7,7 @@ ghost use Prim.Native.Nat.{_+_, _^_, _≤_};
 ghost use Rattle.plan.specs.Lists.{run};
 ghost use Rattle.plan.specs.Plan.{planOf};
 ghost use Rattle.plan.specs.Reading.{Accepted};
-ghost use Rattle.route.specs.Permission.{allMet, find, lowest};
+ghost use Rattle.route.specs.Permission.{allMet, find, planTerms, lowest};
 ghost use Rattle.route.specs.Values.{settingIn, OfNamed, hasBelt, Clauses};
 
 // The lowest setting that works, or that none does.
@@ -50,8 +50,10 @@ fn try_both(p: &[u8], clauses: &[u32], belts: u64, mode: ModeId, setting: u16) -
 // The lowest setting under which every rule is met, where the named belts of the mask `belts` are on the route (masks::on_route): the rule test of
 // a route. `clauses` are those of the plan (clauses::decode).
 pub fn lowest_setting(p: &[u8], clauses: &[u32], belts: u64) -> Lowest
-    requires { ⌜ Accepted (now p) × Clauses (now p) (now clauses) × OfNamed (now p) belts ⌝ }
-    ensures { λ v. ⌜ settingIn v ≡ lowest (planOf (now (p .entry)) .rules) (planOf (now (p .entry)) .modes) (hasBelt (now (p .entry)) belts) ⌝ }
+    requires { ⌜ Accepted (now p)
+        × Clauses (now p) (now clauses)
+        × OfNamed (now p) belts ⌝ }
+    ensures { λ v. ⌜ settingIn v ≡ lowest (planTerms (planOf (now (p .entry)))) (hasBelt (now (p .entry)) belts) ⌝ }
 {
     settle(p, clauses, belts, ModeId(read::modes(p) as u16), 0)
 }

@@ -31,12 +31,12 @@ use Rattle.route.specs.declared.relax.Fixings.{Fixings}
 use Rattle.route.specs.declared.relax.Summary.{Summary}
 use Rattle.route.specs.Routes.{wrongEnds, cost, costLimit, lower}
 use Rattle.route.specs.Values.{Known, routeIn, firstBelts, subproblemIn, atMost, summaryAs, keptOf}
-use Rattle.route.specs.Claims.{Holdable}
+use Rattle.route.specs.Laws.{Holdable}
 use Rattle.route.specs.Inner.{wayCost}
 use Rattle.route.proofs.ByName.{known-cheap, ends-junctions}
 use Rattle.route.proofs.Order.{first-ne}
 use Rattle.route.proofs.Bounded.{at-most-none, at-most-some, kept-size}
-use Rattle.route.proofs.Answered.{answer-claim}
+use Rattle.route.proofs.Answered.{answer-law}
 use Rattle.search.specs.declared.query.Query.{Query}
 use Rattle.search.specs.declared.state.Search.{Search}
 use Rattle.search.specs.declared.state.Judged.the-variants.{Best}
@@ -138,7 +138,7 @@ module _ {b : List ℕ} (ok : Accepted b) (bytes : Bytes b) (q : Trip) (ends : w
   claim : (r : List Belt) → relaxedIn b q f ≡ some r → Holdable b r
   claim r e =
       let inside = ends-junctions (planOf b) (q .s) (q .t) ends in
-      answer-claim b ok bytes (q .s) (q .t) (inside .0) (inside .3) (subproblemIn b f) r e
+      answer-law b ok bytes (q .s) (q .t) (inside .0) (inside .3) (subproblemIn b f) r e
 
   pub tells : (t : Bool) (best : Route) → Known b best → (k : ℕ) → k ≡ boundOf (bestIn b t best) → (v : Summary)
       → v ≡ summaryAs b (atMost k (relaxedIn b q f)) → Tells b (relaxedIn b q f) t best k v

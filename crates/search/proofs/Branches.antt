@@ -23,16 +23,17 @@ use lib.ListN.{length}
 use lib.Dec.{eqb, ltb}
 use borrow.Author.Tests.{eqb-true, eq-eqb, not-true}
 use Rattle.plan.specs.Lists.{any, kept, keep, counted, count, mem}
+use Rattle.plan.specs.declared.read.Literal.{Literal}
+use Rattle.plan.specs.declared.read.Literal.the-variants.{OfBelt, OfMode}
 use Rattle.plan.specs.Plan.{Belt, Plan, planOf, names, inRule, named}
 use Rattle.plan.specs.Reading.{Accepted}
 use Rattle.plan.proofs.Lists.{test, either, never, alike, each, in-any, any-some, in-keep, keep-in, in-mem, mem-in}
-use Rattle.plan.proofs.Naming.{in-named}
-use Rattle.route.specs.Routes.{IsRoute}
-use Rattle.route.specs.Permission.{passes, find, orElse, otherwise}
+use Rattle.route.specs.declared.path.Trip.{Trip}
+use Rattle.route.specs.Permission.{passes, Terms, find, orElse, otherwise}
 use Rattle.route.specs.Subproblems.{Subproblem, admits}
-use Rattle.route.proofs.ByName.{route-belts}
 use Rattle.route.proofs.Firsts.{admits-is, is-admits}
-use Rattle.route.proofs.Holding.{AgreeOn, permitted-same}
+use Rattle.route.proofs.Codes.{literal-named}
+use Rattle.route.proofs.Holding.{AgreeOn, lowest-cong}
 use Rattle.search.specs.Branching.{isFixed, unfixed, fixedCount, adding, requiring, forbidding, children, ruleCount, higher, highest, pickOf}
 use Rattle.search.specs.Search.{settingOf, problemOf}
 use Rattle.search.specs.Claims.{Explores}
@@ -40,7 +41,7 @@ use Rattle.search.specs.Claims.{Explores}
 -- ---- the two children
 
 -- what holds of both holds of each
-of-both : (P : Subproblem → Type 0) (o : ℕ) (p : Plan) (x : Subproblem) (e : ℕ) → P (requiring p x e) → P (forbidding p x e)
+pub of-both : (P : Subproblem → Type 0) (o : ℕ) (p : Plan) (x : Subproblem) (e : ℕ) → P (requiring p x e) → P (forbidding p x e)
     → (y : Subproblem) → List·Memᴰ y (children o p x e) → P y
 of-both P zero p x e r f = each P f (each P r (λ y m. absurd (List·Memᴰ·not-nil m)))
 of-both P (suc o) p x e r f = each P r (each P f (λ y m. absurd (List·Memᴰ·not-nil m)))
@@ -56,7 +57,7 @@ forbidding-child (suc o) p x e = List·Memᴰ·tail (List·Memᴰ·head refl)
 -- ---- what they admit
 
 -- what holds of some belts and of e holds of these belts with e added
-of-adding : (P : ℕ → Type 0) (p : Plan) (e : ℕ) (es : List ℕ) → P e → ((n : ℕ) → List·Memᴰ n es → P n) → (n : ℕ) → List·Memᴰ n (adding p e es) → P n
+pub of-adding : (P : ℕ → Type 0) (p : Plan) (e : ℕ) (es : List ℕ) → P e → ((n : ℕ) → List·Memᴰ n es → P n) → (n : ℕ) → List·Memᴰ n (adding p e es) → P n
 of-adding P p e es here there n m =
     go (either (mem n es) (eqb n e) (keep-in (λ (n : ℕ). mem n es || eqb n e) (named p) m .1))
   where
@@ -177,29 +178,25 @@ all-fixed p x u n m = go (test (isFixed x n))
     go (inl t) = t
     go (inr t) = absurd (List·Memᴰ·not-nil (subst (List·Memᴰ n) u (in-keep (λ (n : ℕ). not (isFixed x n)) (named p) m (ap not t))))
 
--- of two admitted routes the one passes each belt in a rule that the other passes
-passed-too : (p : Plan) (s t : ℕ) (x : Subproblem) → unfixed p x ≡ [] → (r q : List Belt) → IsRoute p s t r → admits x r ≡ true → admits x q ≡ true
-    → (e : ℕ) → any (inRule e) (p .rules) ≡ true → passes r e ≡ true → passes q e ≡ true
-passed-too p s t x u r q i a c e k h =
-    let (f, m, l) = any-some (λ (f : Belt). eqb (f .name) e) r h in
-    let z = eqb-true (f .name) e l in
-    let n = in-named p f (route-belts p s t r i f m) (ap (λ (n : ℕ). any (inRule n) (p .rules)) z ∙ k) in
-    go (either (mem e (x .required)) (mem e (x .forbidden)) (all-fixed p x u e (Memᴰ·cast (sym z) n)))
+-- of two admitted routes the one passes each named belt that the other passes
+passed-too : (p : Plan) (x : Subproblem) → unfixed p x ≡ [] → (r q : List Belt) → admits x r ≡ true → admits x q ≡ true
+    → (e : ℕ) → List·Memᴰ e (named p) → passes r e ≡ true → passes q e ≡ true
+passed-too p x u r q a c e n h = go (either (mem e (x .required)) (mem e (x .forbidden)) (all-fixed p x u e n))
   where
     go : (mem e (x .required) ≡ true) ⊎ (mem e (x .forbidden) ≡ true) → passes q e ≡ true
     go (inl m) = admits-is x q c .0 e (mem-in (x .required) m)
     go (inr m) = absurd (never h (admits-is x r a .1 e (mem-in (x .forbidden) m)))
 
--- where no named belt is unfixed, the routes that are admitted are permitted alike
-pub settled : (p : Plan) (s t : ℕ) (x : Subproblem) → unfixed p x ≡ [] → (r q : List Belt) → IsRoute p s t r → IsRoute p s t q
-    → admits x r ≡ true → admits x q ≡ true → settingOf p r ≡ settingOf p q
-settled p s t x u r q i j a c = permitted-same (p .rules) (p .modes) r q agree
+-- where no named belt is unfixed, and the rules to be met name no other belts, the routes that are admitted are permitted alike
+pub settled : (p : Plan) (terms : Terms) → ((e : ℕ) → any (inRule e) (terms .rules) ≡ true → List·Memᴰ e (named p))
+    → (x : Subproblem) → unfixed p x ≡ [] → (r q : List Belt) → admits x r ≡ true → admits x q ≡ true → settingOf terms r ≡ settingOf terms q
+settled p terms in-rules x u r q a c = lowest-cong terms (passes r) (passes q) agree
   where
-    agree : AgreeOn (p .rules) (passes r) (passes q)
+    agree : AgreeOn (terms .rules) (passes r) (passes q)
     agree rule m e w k =
         let in-it = in-any (names (e .0)) rule k (eq-eqb (e .0) (e .0) refl) in
-        let in-some = in-any (inRule (e .0)) (p .rules) m in-it in
-        alike (passes r (e .0)) (passes q (e .0)) (passed-too p s t x u r q i a c (e .0) in-some) (passed-too p s t x u q r j c a (e .0) in-some)
+        let is-named = in-rules (e .0) (in-any (inRule (e .0)) (terms .rules) m in-it) in
+        alike (passes r (e .0)) (passes q (e .0)) (passed-too p x u r q a c (e .0) is-named) (passed-too p x u q r c a (e .0) is-named)
 
 -- ---- the picks
 
@@ -254,11 +251,23 @@ picks-unfixed k p x on e h = subst (From (unfixed p x)) h (from-pick k p x on)
 pub picks-one : (k : ℕ) (p : Plan) (x : Subproblem) (on : ℕ → Bool) → pickOf k p x on ≡ none → unfixed p x ≡ []
 picks-one k p x on h = subst (From (unfixed p x)) h (from-pick k p x on)
 
-pub explores : (b : List ℕ) → Accepted b → (s t pick order : ℕ) → Explores (problemOf (planOf b) s t pick order)
-explores b ok s t pick order = record {
+-- a belt in a rule of an accepted plan is a named belt
+rule-named : {b : List ℕ} → Accepted b → (e : ℕ) → any (inRule e) (planOf b .rules) ≡ true → List·Memᴰ e (named (planOf b))
+rule-named {b} ok e h =
+    let (rule, m, i) = any-some (inRule e) (planOf b .rules) h in
+    let (l, k, n) = any-some (names e) rule i in
+    go rule m l k n
+  where
+    go : (rule : List Literal) → List·Memᴰ rule (planOf b .rules) → (l : Literal) → List·Memᴰ l rule → names e l ≡ true → List·Memᴰ e (named (planOf b))
+    go rule m (OfBelt f w) k n = Memᴰ·cast (eqb-true e (f .0) n) (literal-named ok m f w k)
+    go rule m (OfMode f w) k n = absurd (never n refl)
+
+pub explores : (b : List ℕ) → Accepted b → (trip : Trip) (pick order : ℕ) → Explores (problemOf (planOf b) trip pick order)
+explores b ok trip pick order = record {
   bytes = b;
   accepted = ok;
   belts-are = refl;
+  rules-named = rule-named ok;
   picks = λ x r. picks-unfixed pick (planOf b) x (passes r);
   picks-one = λ x r. picks-one pick (planOf b) x (passes r);
 }

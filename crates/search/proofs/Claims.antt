@@ -1,10 +1,12 @@
 -- The claims of specs/Claims.antt hold, all of them. Assumes nothing.
 use Rattle.search.specs.Claims.{Claims}
-use Rattle.search.proofs.Coverage.{coverage-claim, bound-claim, any-choice-claim}
+use Rattle.search.proofs.Steps.{within-claim}
+use Rattle.search.proofs.Coverage.{coverage-claim, bound-claim, best-claim, any-choice-claim}
 use Rattle.search.proofs.Depth.{depth-claim}
 use Rattle.search.proofs.Uniqueness.{valid-claim}
 use Rattle.search.proofs.Refusing.{refused-claim, limits-claim, unchanged-claim}
-use Rattle.search.proofs.Answering.{ends-claim, right-claim, accepted-claim}
+use Rattle.search.proofs.Answering.{ends-claim, right-claim, solves-claim, accepted-claim}
+use Rattle.search.proofs.Sound.{fixes-claim, sound-claim}
 
 pub claims : Claims
 claims = record {
@@ -14,9 +16,14 @@ claims = record {
   unchanged = unchanged-claim;
   accepted = accepted-claim;
   right = right-claim;
+  solves = solves-claim;
   any-choice = any-choice-claim;
   coverage = coverage-claim;
   bound = bound-claim;
   depth = depth-claim;
+  fixes = fixes-claim;
+  best = best-claim;
+  within = within-claim;
+  sound = sound-claim;
   valid = valid-claim;
 }

@@ -28,10 +28,9 @@ use Rattle.route.specs.Subproblems.{Subproblem, admits, relaxed}
 use Rattle.route.proofs.Order.{before-trans, not-before-trans, before-total}
 use Rattle.route.proofs.Firsts.{relaxed-some, relaxed-none}
 use Rattle.route.proofs.Lowest.{lowest-claim}
-use Rattle.search.specs.declared.state.Ending.the-variants.{Found, Nothing, Spent}
 use Rattle.search.specs.Branching.{unfixed, children}
-use Rattle.search.specs.Search.{Problem, State, free, begun, branched, tested, settingOf, compared, improves, considered, takeAt, openNext, stateAt, run, takenOff}
-use Rattle.search.specs.Claims.{Explores, Covers, CoverageClaim, BoundClaim, AnyChoiceClaim, Permits}
+use Rattle.search.specs.Search.{Problem, State, free, begun, branched, tested, settingOf, compared, improves, considered, takeAt, openNext, stateAt, foundRoute, foundNone, budgetSpent, run, takenOff}
+use Rattle.search.specs.Claims.{Explores, Covers, CoverageClaim, BoundClaim, BestClaim, AnyChoiceClaim, Permits}
 use Rattle.search.proofs.Branches.{children-admit, settled}
 use Rattle.search.proofs.Weights.{tree, tree-pow, tree-some, size, weight, weight-some, weight-free, weight-taken, weight-children}
 use Rattle.search.proofs.Belts.{same-route, same-relaxed}
@@ -138,14 +137,14 @@ module _ (q : Problem) (ex : Explores q) where
 
     module _ (r : List Belt) (is : relaxed (q .plan) (q .s) (q .t) x ≡ some r) where
       -- 5 and 6: the relaxed route is not permitted
-      sound-branched : settingOf (q .plan) r ≡ none → (o : Option ℕ) → q .pick x r ≡ o → Sound q (branched q x st o)
-      sound-branched unmet none k = dropped (λ w i a. absurd (lowest-claim (q .plan .rules) (q .plan .modes) w .1 .0 (likewise w (i .0) a) (i .1)))
+      sound-branched : settingOf (q .terms) r ≡ none → (o : Option ℕ) → q .pick x r ≡ o → Sound q (branched q x st o)
+      sound-branched unmet none k = dropped (λ w i a. absurd (lowest-claim (q .terms) w .1 .0 (likewise w a) (i .1)))
         where
           -- nor is any other that x admits
-          likewise : (w : List Belt) → Routed q w → admits x w ≡ true → settingOf (q .plan) w ≡ none
-          likewise w i a =
+          likewise : (w : List Belt) → admits x w ≡ true → settingOf (q .terms) w ≡ none
+          likewise w a =
               let (j, c, least) = relaxed-least x r is in
-              settled (q .plan) (q .s) (q .t) x (ex .picks-one x r k) w r i j a c ∙ unmet
+              settled (q .plan) (q .terms) (ex .rules-named) x (ex .picks-one x r k) w r a c ∙ unmet
       sound-branched unmet (some e) k = record {
         permitted = sound .permitted;
         covered = λ w i. go w (sound .covered w i);
@@ -159,11 +158,11 @@ module _ (q : Problem) (ex : Explores q) where
           go w (inr a) = let (y, m, c) = children-admit (q .order) (q .plan) x e w a in inr (inr (y, Memᴰ·append-left (st .waiting) m, c))
 
       -- 4: it comes before the best, and is permitted or not
-      sound-tested : improves r (st .best) ≡ true → (o : Option ℕ) → settingOf (q .plan) r ≡ o → Sound q (tested q x st r o)
+      sound-tested : improves r (st .best) ≡ true → (o : Option ℕ) → settingOf (q .terms) r ≡ o → Sound q (tested q x st r o)
       sound-tested better none k = sound-branched k (q .pick x r) refl
       sound-tested better (some σ) k =
           let (j, c, least) = relaxed-least x r is in
-          let (u, works, first) = lowest-claim (q .plan .rules) (q .plan .modes) r .0 σ .0 k in
+          let (u, works, first) = lowest-claim (q .terms) r .0 σ .0 k in
           record {
             permitted = λ w h. subst (Permits q) (Option·some-injective r w h) (j, (σ, u, works));
             covered = λ w i. go w (λ a. behind r w j (i .0) (least w (i .0) a)) (sound .covered w i);
@@ -182,7 +181,7 @@ module _ (q : Problem) (ex : Explores q) where
 
       -- 3: it comes before the best or not
       sound-compared : (t : Bool) → improves r (st .best) ≡ t → Sound q (compared q x st r t)
-      sound-compared true k = sound-tested k (settingOf (q .plan) r) refl
+      sound-compared true k = sound-tested k (settingOf (q .terms) r) refl
       sound-compared false k = dropped (λ w i a. by-best st w (go w i a (st .best) refl k))
         where
           go : (w : List Belt) → Permits q w → admits x w ≡ true
@@ -234,6 +233,9 @@ module _ (q : Problem) (ex : Explores q) where
 
 -- ---- the claims
 
+pub best-claim : BestClaim
+best-claim q ex n st h = sound-at q ex n st h .permitted
+
 pub coverage-claim : CoverageClaim
 coverage-claim q ex n st h = sound-at q ex n st h .covered
 
@@ -248,7 +250,7 @@ module _ (q : Problem) (ex : Explores q) (budget : ℕ) where
   at-end = sound-at q ex (run q budget .state .opened) (run q budget .state) (run-counted q budget)
 
   -- where nothing waits any more, the best covers every permitted route
-  covered-by-best : (run q budget .ending ≡ Spent → ⊥) → (w : List Belt) → Permits q w → ByBest (run q budget .state .best) w
+  covered-by-best : (run q budget .ending ≡ some budgetSpent → ⊥) → (w : List Belt) → Permits q w → ByBest (run q budget .state .best) w
   covered-by-best unspent w i = go (at-end .covered w i)
     where
       go : Covers (run q budget .state) w → ByBest (run q budget .state .best) w
@@ -256,23 +258,23 @@ module _ (q : Problem) (ex : Explores q) (budget : ℕ) where
       go (inr (inl h)) = inr h
       go (inr (inr (y, m, a))) = absurd (List·Memᴰ·not-nil (subst (List·Memᴰ y) (run-complete q budget unspent) m))
 
-  found-first : run q budget .ending ≡ Found → (r : List Belt) × (run q budget .state .best ≡ some r) × Permits q r
+  found-first : run q budget .ending ≡ some foundRoute → (r : List Belt) × (run q budget .state .best ≡ some r) × Permits q r
       × ((w : List Belt) → Permits q w → (w ≡ r → ⊥) → before r w ≡ true)
   found-first h =
       let (r, e) = run-found q budget h in
       (r, e, at-end .permitted r e, λ w i d. go r w e d (covered-by-best unspent w i))
     where
-      unspent : run q budget .ending ≡ Spent → ⊥
+      unspent : run q budget .ending ≡ some budgetSpent → ⊥
       unspent s = let z : _≡_ {A = ℕ} 0 1 = cc in absurd (omega arith)
 
       go : (r w : List Belt) → run q budget .state .best ≡ some r → (w ≡ r → ⊥) → ByBest (run q budget .state .best) w → before r w ≡ true
       go r w e d (inl k) = absurd (d (Option·some-injective w r (sym k ∙ e)))
       go r w e d (inr (b, k, l)) = subst (λ (v : List Belt). before v w ≡ true) (Option·some-injective b r (sym k ∙ e)) l
 
-  none-found : run q budget .ending ≡ Nothing → (w : List Belt) → Permits q w → ⊥
+  none-found : run q budget .ending ≡ some foundNone → (w : List Belt) → Permits q w → ⊥
   none-found h w i = go (run-nothing q budget h) (covered-by-best unspent w i)
     where
-      unspent : run q budget .ending ≡ Spent → ⊥
+      unspent : run q budget .ending ≡ some budgetSpent → ⊥
       unspent s = let z : _≡_ {A = ℕ} 0 1 = cc in absurd (omega arith)
 
       go : run q budget .state .best ≡ none → ByBest (run q budget .state .best) w → ⊥

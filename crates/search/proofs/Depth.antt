@@ -60,7 +60,7 @@ module _ (q : Problem) (picks : Picks q) (x : Subproblem) (st : State) (deep : D
   deep-tested r none = deep-branched (q .pick x r) (picks x r)
 
   deep-compared : (r : List Belt) (t : Bool) → Deep (q .plan) (compared q x st r t .waiting)
-  deep-compared r true = deep-tested r (settingOf (q .plan) r)
+  deep-compared r true = deep-tested r (settingOf (q .terms) r)
   deep-compared r false = deep
 
   pub deep-considered : (o : Option (List Belt)) → Deep (q .plan) (considered q x st o .waiting)

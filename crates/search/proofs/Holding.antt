@@ -38,7 +38,7 @@ use Rattle.plan.proofs.Places.{at-place, place-in}
 use Rattle.plan.proofs.Reading.{named-few}
 use Rattle.route.specs.declared.path.Route.{Route}
 use Rattle.route.specs.declared.relax.Fixings.{Fixings}
-use Rattle.route.specs.Permission.{passes}
+use Rattle.route.specs.Permission.{passes, termsOf}
 use Rattle.route.specs.Subproblems.{Subproblem}
 use Rattle.route.specs.Values.{idsOf, packed, Known, routeIn, inMask, withPlace, fixedIn, OfNamed, subproblemIn}
 use Rattle.route.proofs.Fixed.{fixed-mem, with-belt, with-low, nothing-has}
@@ -291,7 +291,7 @@ module _ {b : List ℕ} (ok : Accepted b) (v : Search) (size : length (v .waitin
 
     pub compared-settles : (t : Bool)
         → Settles b v f q r (compared (problemIn b q) subproblem (stateIn b v) (routeIn b r) t) (judgedIn b q f (passes (routeIn b r)) t)
-    compared-settles true = tested-settles (settingOf (planOf b) (routeIn b r))
+    compared-settles true = tested-settles (settingOf (termsOf (planOf b) (q .trip)) (routeIn b r))
     compared-settles false = record { room = tt; state = refl; valid = taken .valid }
 
 -- ---- the newest is taken

@@ -13,5 +13,6 @@ pub mod Bounds
 pub mod Uniqueness
 pub mod Refusing
 pub mod Answering
+pub mod Sound
 pub mod Replies
 pub mod Claims

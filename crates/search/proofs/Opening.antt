@@ -18,7 +18,7 @@
 -- Each goes by what was tested, clause by clause of the definition. Assumes nothing.
 use mathlib.Core.Path.{_≡_, refl, sym, _∙_, ap, subst}
 use mathlib.Core.Bool.{Bool, true, false}
-use mathlib.Core.Option.{Option, none, some}
+use mathlib.Core.Option.{Option, none, some, Option·none-ne-some}
 use Prim.Native.Nat.{ℕ, zero, suc, _+_, _-_, _≤_, _<_}
 use mathlib.Core.List.{List, List·Memᴰ}
 use native.Mathlib.Omega.{arith}
@@ -30,20 +30,20 @@ use Rattle.plan.specs.Reading.{Accepted, Bytes}
 use Rattle.route.specs.declared.path.Route.{Route}
 use Rattle.route.specs.declared.relax.Fixings.{Fixings}
 use Rattle.route.specs.Routes.{wrongEnds}
-use Rattle.route.specs.Permission.{passes, lowest}
+use Rattle.route.specs.Permission.{passes, termsOf, lowest}
 use Rattle.route.specs.Subproblems.{Subproblem, relaxed}
 use Rattle.route.specs.Values.{idsOf, packed, Known, routeIn, routeOf, subproblemIn, maskOf, hasBelt}
 use Rattle.route.proofs.ByName.{ends-junctions}
-use Rattle.route.proofs.Answered.{answer-claim}
+use Rattle.route.proofs.Answered.{answer-law}
 use Rattle.route.proofs.Holding.{mask-belt, lowest-mask}
 use Rattle.search.specs.declared.query.Query.{Query}
 use Rattle.search.specs.declared.state.Search.{Search}
 use Rattle.search.specs.declared.state.Stepped.{Stepped}
-use Rattle.search.specs.declared.state.Ending.{Ending}
+use Rattle.search.specs.declared.state.Ending as code
 use Rattle.search.specs.declared.state.Ending.the-variants.{GoesOn, Found, Nothing, Spent}
-use Rattle.search.specs.Search.{State, Turn, improves, considered, atEnd, budgeted, stepOf, step, runs, run}
+use Rattle.search.specs.Search.{State, Ending, foundRoute, foundNone, budgetSpent, Turn, improves, considered, atEnd, budgeted, stepOf, step, runs, run}
 use Rattle.search.specs.Answers.{problemIn}
-use Rattle.search.specs.Values.{pickedPlace, firstSearch, waitingIn, bestIn, stateIn, turnIn, Valid, newestOf, relaxedIn}
+use Rattle.search.specs.Values.{pickedPlace, firstSearch, waitingIn, bestIn, stateIn, endingIn, turnIn, Valid, newestOf, relaxedIn}
 use Rattle.search.specs.Inner.{endedAs, testedAs, heldAs, betterIn, judgedIn}
 use Rattle.search.proofs.Steps.{run-goes, run-ends}
 use Rattle.search.proofs.Picks.{pick-cong}
@@ -61,7 +61,7 @@ pub answered : {b : List ℕ} → Accepted b → Bytes b → (s t : ℕ) → wro
     → OnRoute b (maskOf b (namesOf r)) (routeOf r) × (routeOf r ≡ packed (idsOf (routeOf r))) × (routeIn b (routeOf r) ≡ r)
 answered {b} ok bytes s t ends x r e =
     let inside = ends-junctions (planOf b) s t ends in
-    let holds = answer-claim b ok bytes s t (inside .0) (inside .3) x r e in
+    let holds = answer-law b ok bytes s t (inside .0) (inside .3) x r e in
     (record { known = holds .known; mask = ap (maskOf b) (sym (holds .names)) }, ap packed (sym (holds .names)), holds .same)
 
 -- ---- steps 3 to 6
@@ -76,7 +76,7 @@ module _ {b : List ℕ} (ok : Accepted b) (q : Query) (f : Fixings) where
       let p = planOf b in
       let named-same : (e : ℕ) → List·Memᴰ e (named p) → hasBelt b m e ≡ passes (routeIn b r) e =
       λ e i. ap (λ (k : ℕ). hasBelt b k e) (there .mask) ∙ mask-belt ok r (there .known) e i in
-      let setting = ap (λ (k : ℕ). lowest (p .rules) (p .modes) (hasBelt b k)) (there .mask) ∙ lowest-mask ok r (there .known) (p .modes) in
+      let setting = ap (λ (k : ℕ). lowest (termsOf p (q .trip)) (hasBelt b k)) (there .mask) ∙ lowest-mask ok r (there .known) in
       let picked = pick-cong (q .pick) p (subproblemIn b f) (hasBelt b m) (passes (routeIn b r)) named-same in
       λ i. testedAs (pickedPlace (named p) (picked i)) (setting i)
 
@@ -95,17 +95,17 @@ module _ {b : List ℕ} (ok : Accepted b) (bytes : Bytes b) (v : Search) (size :
 
 module _ (b : List ℕ) (q : Query) (budget : ℕ) (v : Search) where
   -- what a step that ends hands back
-  abbrev ends-with : Ending → Turn
-  ends-with e = record { state = stateIn b v; ending = e }
+  abbrev ends-with : code.Ending → Turn
+  ends-with e = record { state = stateIn b v; ending = endingIn e }
 
   -- nothing waits: it goes by whether a best is held
   pub step-empty : v .count ≡ 0 → ends-with (endedAs (v .count) (v .found)) ≡ step (problemIn b q) budget (stateIn b v)
   step-empty n =
       ap (λ (k : ℕ). ends-with (endedAs k (v .found))) n
-      ∙ ap ends-with (held (v .found))
+      ∙ ap (λ (o : Option Ending). record { state = stateIn b v; ending = o }) (held (v .found))
       ∙ sym (ap (stepOf (problemIn b q) budget (stateIn b v)) (ap (waitingIn b (v .waiting)) n))
     where
-      held : (t : Bool) → endedAs 0 t ≡ atEnd (bestIn b t (v .best))
+      held : (t : Bool) → endingIn (endedAs 0 t) ≡ some (atEnd (bestIn b t (v .best)))
       held true = refl
       held false = refl
 
@@ -139,7 +139,7 @@ module _ (b : List ℕ) (q : Query) (budget : ℕ) (v : Search) where
         → turnIn b (record { search = w; ending = GoesOn; bound = k }) ≡ step (problemIn b q) budget (stateIn b v)
     step-goes d w k e =
         let one : v .opened + 1 ≡ suc (v .opened) = omega arith in
-        ap (λ (st : State). record { state = st; ending = GoesOn }) (e ∙ ap opened-to one)
+        ap (λ (st : State). record { state = st; ending = none }) (e ∙ ap opened-to one)
         ∙ by-budget false (ne-eqb (v .opened) budget d)
 
 -- ---- a run
@@ -149,13 +149,13 @@ pub record Running (b : List ℕ) (q : Query) (v : Search) : Type 0 where
   pub within : v .opened ≤ q .budget
   pub left : runs (problemIn b q) (q .budget) (suc (q .budget - v .opened)) (stateIn b v) ≡ run (problemIn b q) (q .budget)
 
-abbrev pub Handed : List ℕ → Query → Stepped → Ending → Type 0
+abbrev pub Handed : List ℕ → Query → Stepped → code.Ending → Type 0
 Handed b q w GoesOn = Running b q (w .search)
 Handed b q w Found = (turnIn b w ≡ run (problemIn b q) (q .budget)) × Valid b (w .search)
 Handed b q w Nothing = (turnIn b w ≡ run (problemIn b q) (q .budget)) × Valid b (w .search)
 Handed b q w Spent = (turnIn b w ≡ run (problemIn b q) (q .budget)) × Valid b (w .search)
 
-abbrev pub left : Query → Stepped → Ending → ℕ
+abbrev pub left : Query → Stepped → code.Ending → ℕ
 left q w GoesOn = suc (q .budget - w .search .opened)
 left q w Found = 0
 left q w Nothing = 0
@@ -176,14 +176,14 @@ module _ (b : List ℕ) (q : Query) where
     running-goes : Valid b (w .search) → w .ending ≡ GoesOn → Running b q (w .search) × (q .budget - w .search .opened < q .budget - v .opened)
     running-goes valid e =
         let state : stateIn b (w .search) ≡ step (problemIn b q) (q .budget) (stateIn b v) .state = ap (λ (t : Turn). t .state) h in
-        let goes = run-goes (problemIn b q) (q .budget) (stateIn b v) (now .within) (sym (ap (λ (t : Turn). t .ending) h) ∙ e) in
+        let goes = run-goes (problemIn b q) (q .budget) (stateIn b v) (now .within) (sym (ap (λ (t : Turn). t .ending) h) ∙ ap endingIn e) in
         let one : w .search .opened ≡ suc (v .opened) = ap (λ (st : State). st .opened) state ∙ goes .0 in
         let below : v .opened < q .budget = goes .1 in
         let left : runs (problemIn b q) (q .budget) (suc (q .budget - w .search .opened)) (stateIn b (w .search)) ≡ run (problemIn b q) (q .budget) =
         ap (λ (st : State). runs (problemIn b q) (q .budget) (suc (q .budget - st .opened)) st) state ∙ sym (goes .2) ∙ now .left in
         (record { valid = valid; within = omega (arith, one, below); left = left }, omega (arith, one, below))
 
-    running-ends : (w .ending ≡ GoesOn → ⊥) → turnIn b w ≡ run (problemIn b q) (q .budget)
+    running-ends : (endingIn (w .ending) ≡ none → ⊥) → turnIn b w ≡ run (problemIn b q) (q .budget)
     running-ends d =
         h
         ∙ sym (run-ends (problemIn b q) (q .budget) (q .budget - v .opened) (stateIn b v) (λ e. d (ap (λ (t : Turn). t .ending) h ∙ e)))
@@ -192,16 +192,19 @@ module _ (b : List ℕ) (q : Query) where
     pub handed : Valid b (w .search) → Handed b q w (w .ending)
     handed valid = go (w .ending) refl
       where
-        go : (e : Ending) → w .ending ≡ e → Handed b q w e
+        over : (e : Ending) → endingIn (w .ending) ≡ some e → turnIn b w ≡ run (problemIn b q) (q .budget)
+        over e k = running-ends (λ l. Option·none-ne-some e (sym l ∙ k))
+
+        go : (e : code.Ending) → w .ending ≡ e → Handed b q w e
         go GoesOn k = running-goes valid k .0
-        go Found k = (running-ends (λ l. let z : _≡_ {A = ℕ} 0 1 = cc in absurd (omega arith)), valid)
-        go Nothing k = (running-ends (λ l. let z : _≡_ {A = ℕ} 0 1 = cc in absurd (omega arith)), valid)
-        go Spent k = (running-ends (λ l. let z : _≡_ {A = ℕ} 0 1 = cc in absurd (omega arith)), valid)
+        go Found k = (over foundRoute (ap endingIn k), valid)
+        go Nothing k = (over foundNone (ap endingIn k), valid)
+        go Spent k = (over budgetSpent (ap endingIn k), valid)
 
     pub fewer : Valid b (w .search) → left q w (w .ending) < suc (q .budget - v .opened)
     fewer valid = go (w .ending) refl
       where
-        go : (e : Ending) → w .ending ≡ e → left q w e < suc (q .budget - v .opened)
+        go : (e : code.Ending) → w .ending ≡ e → left q w e < suc (q .budget - v .opened)
         go GoesOn k = omega (arith, running-goes valid k .1)
         go Found k = omega arith
         go Nothing k = omega arith

@@ -1,15 +1,18 @@
--- What is refused: lines 1 to 8 are those of the sheet check, about a case without a sheet; lines 9 and 10 are comparisons of numbers.
+-- What is refused: lines 1 to 8 are those of the sheet check, about a plan and a trip; lines 9 and 10 are comparisons of numbers.
 -- A request is refused with the number of the first broken line, and what is not refused comes to something else than a refusal.
 --
 --   first-refusal      searchRefusal answers n exactly when n is the number of the first broken line, and 0 exactly when none is broken;
 --                      first-numbered: that number is from 1 to 10
---   Unrefused          no line is broken; zero-unrefused, unrefused-zero: exactly where the answer is 0
+--   query-trip, query-9, trip-query, query-accepted
+--                      the lines of what is asked are unbroken exactly where those of the trip and line 9 are; then the plan is accepted
+--   zero-query, zero-10, query-zero
+--                      the answer is 0 exactly where the lines of what is asked and line 10 are unbroken
 --   limits-claim       LimitsClaim
 --   apart              0 is not 1: what an equation of two different forms comes to
 --   runOf k            the run of the request
 --   outcome-refused, outcome-ended
 --                      the outcome, by whether a line is broken
---   ended-answered     a run comes to a route, to none or to spent; ended-unrefused: so never to a refusal
+--   ended-answered     a run that has an ending comes to a route, to none or to spent; ended-unrefused: no run comes to a refusal
 --   refused-claim      RefusedClaim; refused-numbered: the number of a refusal is from 1 to 10
 --   route-unrefused    what comes to a route is not refused
 --   unchanged-claim    UnchangedClaim
@@ -20,23 +23,22 @@ use mathlib.Core.Logic.{_⊎_, inl, inr, _↔_}
 use mathlib.Core.Bool.{Bool, false, not, _&&_}
 use mathlib.Core.Option.{Option, none, some}
 use Prim.Native.Nat.{ℕ, zero, suc, _≤_}
-use mathlib.Core.List.{List, [], _∷_, map, List·Memᴰ, List·Memᴰ·head, List·Memᴰ·tail, List·Memᴰ·not-nil, List·Memᴰ·append-cases, Memᴰ·append-left, Memᴰ·append-right}
+use mathlib.Core.List.{List, [], _∷_, map, List·Memᴰ, List·Memᴰ·head, List·Memᴰ·tail, List·Memᴰ·eq-of-singleton, List·Memᴰ·append-cases, Memᴰ·append-left, Memᴰ·append-right}
 use native.Mathlib.Omega.{arith}
 use lib.Dec.{leb}
 use borrow.Author.Tests.{ltb-false, leb-true, le-leb, le-ltb, not-false}
-use Rattle.plan.specs.Plan.{Belt, Plan, planOf}
-use Rattle.plan.specs.Refusals.{Line}
+use Rattle.plan.specs.Plan.{Belt, planOf}
+use Rattle.plan.specs.Refusals.{Line, about}
 use Rattle.plan.specs.Reading.{Accepted}
 use Rattle.plan.specs.Claims.{Unbroken, FirstIn}
-use Rattle.plan.proofs.Lists.{both, each, all-in, in-map, map-in}
-use Rattle.plan.proofs.First.{first-exactly, passed, none-broken}
+use Rattle.plan.proofs.Lists.{both, all-in}
+use Rattle.plan.proofs.First.{first-exactly, passed, none-broken, unbroken-about, about-unbroken}
 use Rattle.plan.proofs.Limits.{limits-accepted, accepted-limits}
-use Rattle.route.specs.Refusals.{queryLines}
-use Rattle.route.proofs.Checked.{query-accepted, query-ends, ends-query, inside, ends-inside}
-use Rattle.search.specs.declared.state.Ending.{Ending}
-use Rattle.search.specs.declared.state.Ending.the-variants.{GoesOn, Found, Nothing, Spent}
-use Rattle.search.specs.Search.{Turn, run}
-use Rattle.search.specs.Answers.{Request, asCase, onCheck, broken9, broken10, line9, line10, searchLines, searchRefusal, Outcome, refused, route, nothing, spent, endingOf, ended, problemIn, unlessRefused, outcome, outAfter}
+use Rattle.route.specs.Permission.{Terms, termsOf}
+use Rattle.route.specs.Refusals.{tripLines}
+use Rattle.route.proofs.Checked.{trip-accepted, trip-ends, ends-trip, inside, ends-inside}
+use Rattle.search.specs.Search.{Ending, foundRoute, foundNone, budgetSpent, Turn, run}
+use Rattle.search.specs.Answers.{Asked, Request, tripIn, asked, broken9, broken10, line9, line10, queryLines, searchLines, searchRefusal, Outcome, refused, route, nothing, spent, paused, endingOf, endedBy, ended, problemIn, unlessRefused, outcome, outAfter}
 use Rattle.search.specs.Claims.{RefusedClaim, InLimits, LimitsClaim, Answered, UnchangedClaim}
 
 -- ---- the first broken line
@@ -57,37 +59,31 @@ first-numbered k n f =
 
 -- ---- what unbroken lines say
 
-record Unrefused (k : Request) : Type 0 where
-  query : Unbroken queryLines (asCase k)
-  fine-9 : broken9 k ≡ false
-  fine-10 : broken10 k ≡ false
+-- lines of the trip, as lines of what is asked; and those, as lines of a request
+abbrev tripFront : List (Line Asked)
+tripFront = map (about tripIn) tripLines
 
-module _ (k : Request) where
-  zero-unrefused : searchRefusal k ≡ 0 → Unrefused k
-  unfolding searchRefusal
-  zero-unrefused e =
-      let h = passed searchLines k refl e in
-      record {
-        query = λ l m. h (onCheck l) (Memᴰ·append-left (line9 ∷ line10 ∷ []) (in-map onCheck m));
-        fine-9 = h _ (Memᴰ·append-right (map onCheck queryLines) (List·Memᴰ·head refl));
-        fine-10 = h _ (Memᴰ·append-right (map onCheck queryLines) (List·Memᴰ·tail (List·Memᴰ·head refl)));
-      }
+abbrev queryFront : List (Line Request)
+queryFront = map (about asked) queryLines
 
-  unrefused-zero : Unrefused k → searchRefusal k ≡ 0
-  unfolding searchRefusal
-  unrefused-zero u = none-broken searchLines k (λ l m. go l (List·Memᴰ·append-cases (map onCheck queryLines) m))
+module _ (k : Asked) where
+  pub query-trip : Unbroken queryLines k → Unbroken tripLines (tripIn k)
+  query-trip h = about-unbroken tripIn tripLines k (λ l m. h l (Memᴰ·append-left (line9 ∷ []) m))
+
+  query-9 : Unbroken queryLines k → broken9 k ≡ false
+  query-9 h = h line9 (Memᴰ·append-right tripFront (List·Memᴰ·head refl))
+
+  trip-query : Unbroken tripLines (tripIn k) → broken9 k ≡ false → Unbroken queryLines k
+  trip-query h e l m = go (List·Memᴰ·append-cases tripFront m)
     where
-      Fine : Line Request → Type 0
-      Fine l = l .broken k ≡ false
+      go : List·Memᴰ l tripFront ⊎ List·Memᴰ l (line9 ∷ []) → l .broken k ≡ false
+      go (inl a) = unbroken-about tripIn tripLines k h l a
+      go (inr a) = ap (λ (y : Line Asked). y .broken k) (List·Memᴰ·eq-of-singleton a) ∙ e
 
-      own : (l : Line Request) → List·Memᴰ l (line9 ∷ line10 ∷ []) → Fine l
-      own = each Fine (u .fine-9) (each Fine (u .fine-10) (λ l m. absurd (List·Memᴰ·not-nil m)))
+  pub query-accepted : Unbroken queryLines k → Accepted (k .plan)
+  query-accepted h = trip-accepted (tripIn k) (query-trip h)
 
-      go : (l : Line Request) → List·Memᴰ l (map onCheck queryLines) ⊎ List·Memᴰ l (line9 ∷ line10 ∷ []) → Fine l
-      go l (inl m) = let (x, n, q) = map-in onCheck queryLines m in ap (λ (y : Line Request). y .broken k) q ∙ u .query x n
-      go l (inr m) = own l m
-
-  -- lines 9 and 10
+  -- line 9
   query-right : broken9 k ≡ false → (k .query .pick ≤ 2) × (k .query .order ≤ 1) × (1 ≤ k .query .budget)
   unfolding broken9
   query-right e =
@@ -103,6 +99,24 @@ module _ (k : Request) where
       let q = k .query in
       λ i. not (le-leb (q .pick) 2 a i && le-leb (q .order) 1 b i && le-leb 1 (q .budget) c i)
 
+module _ (k : Request) where
+  pub zero-query : searchRefusal k ≡ 0 → Unbroken queryLines (asked k)
+  unfolding searchRefusal
+  zero-query e = about-unbroken asked queryLines k (λ l m. passed searchLines k refl e l (Memᴰ·append-left (line10 ∷ []) m))
+
+  zero-10 : searchRefusal k ≡ 0 → broken10 k ≡ false
+  unfolding searchRefusal
+  zero-10 e = passed searchLines k refl e line10 (Memᴰ·append-right queryFront (List·Memᴰ·head refl))
+
+  query-zero : Unbroken queryLines (asked k) → broken10 k ≡ false → searchRefusal k ≡ 0
+  unfolding searchRefusal
+  query-zero h e = none-broken searchLines k (λ l m. go l (List·Memᴰ·append-cases queryFront m))
+    where
+      go : (l : Line Request) → List·Memᴰ l queryFront ⊎ List·Memᴰ l (line10 ∷ []) → l .broken k ≡ false
+      go l (inl a) = unbroken-about asked queryLines k h l a
+      go l (inr a) = ap (λ (y : Line Request). y .broken k) (List·Memᴰ·eq-of-singleton a) ∙ e
+
+  -- line 10
   buffer-long : broken10 k ≡ false → 3072 ≤ k .room
   unfolding broken10
   buffer-long e = ltb-false (k .room) 3072 e
@@ -112,23 +126,22 @@ module _ (k : Request) where
   long-buffer h = le-ltb (k .room) 3072 h
 
 pub limits-claim : LimitsClaim
-limits-claim k = (λ h. unrefused-zero k (to h), λ e. from (zero-unrefused k e))
+limits-claim k = (to, from)
   where
-    to : InLimits k → Unrefused k
+    to : InLimits k → searchRefusal k ≡ 0
     to h =
         let ok : Accepted (k .plan) = record { unrefused = limits-accepted (k .plan) (h .plan) } in
-        record {
-          query = ends-query (asCase k) ok (inside (asCase k) (h .s-from) (h .s-to) (h .t-from) (h .t-to));
-          fine-9 = right-query k (h .pick) (h .order) (h .budget);
-          fine-10 = long-buffer k (h .room);
-        }
+        let trip = tripIn (asked k) in
+        let ends = ends-trip trip ok (inside trip (h .s-from) (h .s-to) (h .t-from) (h .t-to)) in
+        query-zero k (trip-query (asked k) ends (right-query (asked k) (h .pick) (h .order) (h .budget))) (long-buffer k (h .room))
 
-    from : Unrefused k → InLimits k
-    from u =
-        let (a, b, c, d) = ends-inside (asCase k) (query-ends (asCase k) (u .query)) in
-        let (pick, order, budget) = query-right k (u .fine-9) in
+    from : searchRefusal k ≡ 0 → InLimits k
+    from e =
+        let fine = zero-query k e in
+        let (a, b, c, d) = ends-inside (tripIn (asked k)) (trip-ends (tripIn (asked k)) (query-trip (asked k) fine)) in
+        let (pick, order, budget) = query-right (asked k) (query-9 (asked k) fine) in
         record {
-          plan = accepted-limits (k .plan) (query-accepted (asCase k) (u .query) .unrefused);
+          plan = accepted-limits (k .plan) (query-accepted (asked k) fine .unrefused);
           s-from = a;
           s-to = b;
           t-from = c;
@@ -136,7 +149,7 @@ limits-claim k = (λ h. unrefused-zero k (to h), λ e. from (zero-unrefused k e)
           pick = pick;
           order = order;
           budget = budget;
-          room = buffer-long k (u .fine-10);
+          room = buffer-long k (zero-10 k e);
         }
 
 -- ---- outcomes
@@ -152,27 +165,34 @@ module _ (k : Request) where
   unfolding outcome
   outcome-refused n e = ap (λ (m : ℕ). unlessRefused m k) e
 
-  pub outcome-ended : searchRefusal k ≡ 0 → outcome k ≡ ended (planOf (k .plan)) (runOf k)
+  pub outcome-ended : searchRefusal k ≡ 0 → outcome k ≡ ended (termsOf (planOf (k .plan)) (k .query .trip)) (runOf k)
   unfolding outcome
   outcome-ended e = ap (λ (m : ℕ). unlessRefused m k) e
 
-pub ended-answered : (p : Plan) (v : Turn) → Answered (ended p v)
-ended-answered p v = go (v .state .opened) (v .state .best) (v .ending)
-  where
-    go : (n : ℕ) (best : Option (List Belt)) (e : Ending) → Answered (endingOf p n best e)
-    go n best GoesOn = inr (inr (n, refl))
-    go n best Spent = inr (inr (n, refl))
-    go n best Nothing = inr (inl (n, refl))
-    go n none Found = inr (inl (n, refl))
-    go n (some r) Found = inl (_, _, _, n, refl)
+ending-answered : (terms : Terms) (n : ℕ) (best : Option (List Belt)) (e : Ending) → Answered (endingOf terms n best e)
+ending-answered terms n best budgetSpent = inr (inr (n, refl))
+ending-answered terms n best foundNone = inr (inl (n, refl))
+ending-answered terms n none foundRoute = inr (inl (n, refl))
+ending-answered terms n (some r) foundRoute = inl (_, _, _, n, refl)
 
-ended-unrefused : (p : Plan) (v : Turn) (n : ℕ) → ended p v ≡ refused n → ⊥
-ended-unrefused p v n h = go (ended p v) h (ended-answered p v)
+pub ended-answered : (terms : Terms) (v : Turn) → (v .ending ≡ none → ⊥) → Answered (ended terms v)
+ended-answered terms v over = go (v .ending) over
   where
-    go : (o : Outcome) → o ≡ refused n → Answered o → ⊥
-    go o h (inl (es, c, σ, m, e)) = apart cc
-    go o h (inr (inl (m, e))) = apart cc
-    go o h (inr (inr (m, e))) = apart cc
+    go : (o : Option Ending) → (o ≡ none → ⊥) → Answered (endedBy terms (v .state) o)
+    go none h = absurd (h refl)
+    go (some e) h = ending-answered terms (v .state .opened) (v .state .best) e
+
+ended-unrefused : (terms : Terms) (v : Turn) (n : ℕ) → ended terms v ≡ refused n → ⊥
+ended-unrefused terms v n h = go (v .ending) h
+  where
+    answered : (o : Outcome) → o ≡ refused n → Answered o → ⊥
+    answered o h (inl (es, c, σ, m, e)) = apart cc
+    answered o h (inr (inl (m, e))) = apart cc
+    answered o h (inr (inr (m, e))) = apart cc
+
+    go : (o : Option Ending) → endedBy terms (v .state) o ≡ refused n → ⊥
+    go none h = apart cc
+    go (some e) h = answered _ h (ending-answered terms (v .state .opened) (v .state .best) e)
 
 pub refused-claim : RefusedClaim
 refused-claim k n = (to (searchRefusal k) refl, λ f. from n (first-refusal k n .1 (inr f)) (first-numbered k n f .0))
@@ -182,7 +202,7 @@ refused-claim k n = (to (searchRefusal k) refl, λ f. from n (first-refusal k n 
     first l (inr f) = f
 
     to : (m : ℕ) → searchRefusal k ≡ m → outcome k ≡ refused n → FirstIn searchLines k n
-    to zero e h = absurd (ended-unrefused (planOf (k .plan)) (runOf k) n (sym (outcome-ended k e) ∙ h))
+    to zero e h = absurd (ended-unrefused (termsOf (planOf (k .plan)) (k .query .trip)) (runOf k) n (sym (outcome-ended k e) ∙ h))
     to (suc m) e h =
         let q : refused (suc m) ≡ refused n = sym (outcome-refused k m e) ∙ h in
         let w : suc m ≡ n = cc in
@@ -213,3 +233,4 @@ unchanged-claim k out no-route = go (outcome k) refl
     go (route es c σ n) e = absurd (no-route es c σ n e)
     go (nothing n) e = refl
     go (spent n) e = refl
+    go (paused n) e = refl

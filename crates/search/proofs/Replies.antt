@@ -5,8 +5,8 @@
 --   found-held          a run that ends with a route holds one
 --   turn-ended, turn-found
 --                       what a run comes to, by its ending
---   plan-refused, refused-8, refused-9, refused-10, none-refused
---                       the number of the first broken line: the plan's own, and with an accepted plan that of lines 8 to 10, or 0
+--   trip-refused, refused-9, refused-10, none-refused
+--                       the number of the first broken line: that of the plan and the trip, and where these are unbroken 9, 10 or 0
 --   outcome-by          what the request comes to, by that number
 --   refused-told        where a line is broken its number is the answer, and the buffer is as it was
 --
@@ -21,25 +21,26 @@ use lib.ListN.{length, drop}
 use borrow.Author.Tests.{lt-ltb, le-ltb}
 use Rattle.plan.specs.declared.refusal.Refusal.{Refusal}
 use Rattle.plan.specs.Plan.{Belt, planOf}
-use Rattle.plan.specs.Refusals.{Line, planLines, firstBroken, refusal, refusalNumber}
+use Rattle.plan.specs.Refusals.{Line, about, firstBroken, refusalNumber}
+use Rattle.plan.specs.Claims.{Unbroken}
 use Rattle.plan.specs.Reading.{Accepted}
-use Rattle.plan.proofs.First.{front-first, on-broken, on-unbroken, past, passed}
+use Rattle.plan.proofs.First.{front-first, on-broken, on-unbroken, past, passed, first-about, unbroken-about}
 use Rattle.plan.proofs.Numbers.{nonzero}
 use Rattle.route.specs.declared.path.Route.{Route}
-use Rattle.route.specs.Routes.{wrongEnds, cost}
+use Rattle.route.specs.Routes.{cost}
+use Rattle.route.specs.Permission.{Terms, planTerms, termsOf}
 use Rattle.route.specs.Sheets.{sheetOf}
-use Rattle.route.specs.Refusals.{onPlan, broken8}
+use Rattle.route.specs.Refusals.{tripLines}
 use Rattle.route.specs.Values.{idsOf, Known, routeIn}
 use Rattle.route.proofs.ByName.{known-names}
-use Rattle.route.proofs.Checked.{ends-wrong, ends-fine}
 use Rattle.search.specs.declared.state.Search.{Search}
 use Rattle.search.specs.declared.state.Stepped.{Stepped}
-use Rattle.search.specs.declared.state.Ending.{Ending}
+use Rattle.search.specs.declared.state.Ending as code
 use Rattle.search.specs.declared.state.Ending.the-variants.{Found}
 use Rattle.search.specs.declared.query.Query.{Query}
-use Rattle.search.specs.Search.{Turn, settingOf, run}
-use Rattle.search.specs.Answers.{Request, asCase, onCheck, wrongQuery, broken9, broken10, line9, line10, searchRefusal, route, orZero, endingOf, ended, problemIn, unlessRefused, outcome, reply, Told}
-use Rattle.search.specs.Values.{bestIn, turnIn, requestOf}
+use Rattle.search.specs.Search.{foundRoute, Turn, settingOf, run}
+use Rattle.search.specs.Answers.{Asked, Request, tripIn, asked, wrongQuery, broken9, broken10, line9, line10, queryLines, searchRefusal, route, orZero, endingOf, endedBy, ended, problemIn, unlessRefused, outcome, reply, Told}
+use Rattle.search.specs.Values.{bestIn, stateIn, endingIn, turnIn, requestOf}
 use Rattle.search.specs.Inner.{bestOf}
 use Rattle.search.proofs.Steps.{run-found}
 
@@ -47,7 +48,7 @@ use Rattle.search.proofs.Steps.{run-found}
 
 -- c, σ and size are the sheet's cost, setting and length
 pub written-best : {b : List ℕ} → Accepted b → (v : Search) → Known b (v .best) → (c σ size : ℕ) (before after : List ℕ)
-    → c ≡ cost (routeIn b (v .best)) → σ ≡ orZero (settingOf (planOf b) (routeIn b (v .best)))
+    → c ≡ cost (routeIn b (v .best)) → σ ≡ orZero (settingOf (planTerms (planOf b)) (routeIn b (v .best)))
     → size ≡ length (sheetOf (idsOf (v .best)) c σ) → after ≡ sheetOf (idsOf (v .best)) c σ ++ drop size before
     → Told (reply 0 (v .opened) size) before after (bestOf b v)
 written-best {b} ok v k c σ size before after ec eσ es ea =
@@ -63,65 +64,64 @@ held b true best r e = refl
 held b false best r e = let z : _≡_ {A = ℕ} 0 1 = cc in absurd (omega arith)
 
 module _ (b : List ℕ) (q : Query) (v : Stepped) (same : turnIn b v ≡ run (problemIn b q) (q .budget)) where
+  abbrev terms : Terms
+  terms = termsOf (planOf b) (q .trip)
+
   found-held : v .ending ≡ Found → v .search .found ≡ true
   found-held e =
-      let (r, h) = run-found (problemIn b q) (q .budget) (sym (ap (λ (x : Turn). x .ending) same) ∙ e) in
+      let (r, h) = run-found (problemIn b q) (q .budget) (sym (ap (λ (x : Turn). x .ending) same) ∙ ap endingIn e) in
       held b (v .search .found) (v .search .best) r (ap (λ (x : Turn). x .state .best) same ∙ h)
 
-  pub turn-ended : (out : List ℕ) (x : Ending) → v .ending ≡ x
-      → endingOf (planOf b) (v .search .opened) (bestIn b (v .search .found) (v .search .best)) x ≡ unlessRefused 0 (requestOf b q out)
-  turn-ended out x e =
-      ap (endingOf (planOf b) (v .search .opened) (bestIn b (v .search .found) (v .search .best))) (sym e) ∙ ap (ended (planOf b)) same
+  pub turn-ended : (out : List ℕ) (x : code.Ending) → v .ending ≡ x
+      → endedBy terms (stateIn b (v .search)) (endingIn x) ≡ unlessRefused 0 (requestOf b q out)
+  turn-ended out x e = ap (λ (y : code.Ending). endedBy terms (stateIn b (v .search)) (endingIn y)) (sym e) ∙ ap (ended terms) same
 
   pub turn-found : (out : List ℕ) → v .ending ≡ Found → bestOf b (v .search) ≡ unlessRefused 0 (requestOf b q out)
   turn-found out e =
-      ap (λ (t : Bool). endingOf (planOf b) (v .search .opened) (bestIn b t (v .search .best)) Found) (sym (found-held e)) ∙ turn-ended out Found e
+      ap (λ (t : Bool). endingOf terms (v .search .opened) (bestIn b t (v .search .best)) foundRoute) (sym (found-held e)) ∙ turn-ended out Found e
 
 -- ---- the first broken line
 
--- lines 1 to 7, and 8, as lines about requests
-abbrev front : List (Line Request)
-front = map onCheck (map onPlan planLines)
+-- lines 1 to 8 as lines of what is asked, and 1 to 9 as lines of a request
+abbrev tripFront : List (Line Asked)
+tripFront = map (about tripIn) tripLines
 
-abbrev line8 : Line Request
-line8 = onCheck (record { number = 8; broken = broken8 })
+abbrev queryFront : List (Line Request)
+queryFront = map (about asked) queryLines
 
-pub plan-refused : (k : Request) → (refusal (k .plan) ≡ 0 → ⊥) → searchRefusal k ≡ refusal (k .plan)
-unfolding refusal searchRefusal
-plan-refused k h = front-first (line8 ∷ line9 ∷ line10 ∷ []) k front h
+-- a broken line of the plan or the trip decides
+pub trip-refused : (k : Request) (n : ℕ) → (n ≡ 0 → ⊥) → firstBroken tripLines (tripIn (asked k)) ≡ n → searchRefusal k ≡ n
+unfolding searchRefusal
+trip-refused k n h e =
+    let by-trip : firstBroken tripFront (asked k) ≡ n = first-about tripIn tripLines (asked k) ∙ e in
+    let by-query : firstBroken queryFront k ≡ n =
+    first-about asked queryLines k ∙ front-first (line9 ∷ []) (asked k) tripFront (λ z. h (sym by-trip ∙ z)) ∙ by-trip in
+    front-first (line10 ∷ []) k queryFront (λ z. h (sym by-query ∙ z)) ∙ by-query
 
-module _ (k : Request) (ok : Accepted (k .plan)) where
-  unbroken : firstBroken planLines (k .plan) ≡ 0
-  unfolding refusal
-  unbroken = ok .unrefused
+module _ (k : Request) (fine : Unbroken tripLines (tripIn (asked k))) where
+  past-trip : firstBroken queryFront k ≡ firstBroken (line9 ∷ []) (asked k)
+  past-trip = first-about asked queryLines k ∙ past tripFront (line9 ∷ []) (asked k) (unbroken-about tripIn tripLines (asked k) fine)
 
-  behind : searchRefusal k ≡ firstBroken (line8 ∷ line9 ∷ line10 ∷ []) k
-  unfolding searchRefusal
-  behind = past front (line8 ∷ line9 ∷ line10 ∷ []) k (passed front k refl unbroken)
+  pub refused-9 : wrongQuery (k .query) ≡ true → searchRefusal k ≡ 9
+  unfolding broken9 searchRefusal
+  refused-9 e =
+      let nine : firstBroken queryFront k ≡ 9 = past-trip ∙ on-broken line9 [] (asked k) e in
+      front-first (line10 ∷ []) k queryFront (λ z. let w : _≡_ {A = ℕ} 9 0 = sym nine ∙ z in omega arith) ∙ nine
 
-  pub refused-8 : wrongEnds (planOf (k .plan)) (k .query .trip .s) (k .query .trip .t) ≡ true → searchRefusal k ≡ 8
-  refused-8 e = behind ∙ on-broken line8 (line9 ∷ line10 ∷ []) k (ends-wrong (asCase k) e)
+  module _ (right : wrongQuery (k .query) ≡ false) where
+    past-9 : searchRefusal k ≡ firstBroken (line10 ∷ []) k
+    unfolding broken9 searchRefusal
+    past-9 =
+        let zero : firstBroken queryFront k ≡ 0 = past-trip ∙ on-unbroken line9 [] (asked k) right in
+        past queryFront (line10 ∷ []) k (passed queryFront k refl zero)
 
-  module _ (ends : wrongEnds (planOf (k .plan)) (k .query .trip .s) (k .query .trip .t) ≡ false) where
-    past-8 : searchRefusal k ≡ firstBroken (line9 ∷ line10 ∷ []) k
-    past-8 = behind ∙ on-unbroken line8 (line9 ∷ line10 ∷ []) k (ends-fine (asCase k) ends)
+    pub refused-10 : k .room < 3072 → searchRefusal k ≡ 10
+    unfolding broken10
+    refused-10 h = past-9 ∙ on-broken line10 [] k (lt-ltb (k .room) 3072 h)
 
-    pub refused-9 : wrongQuery (k .query) ≡ true → searchRefusal k ≡ 9
-    unfolding broken9
-    refused-9 e = past-8 ∙ on-broken line9 (line10 ∷ []) k e
-
-    module _ (asked : wrongQuery (k .query) ≡ false) where
-      past-9 : searchRefusal k ≡ firstBroken (line10 ∷ []) k
-      unfolding broken9
-      past-9 = past-8 ∙ on-unbroken line9 (line10 ∷ []) k asked
-
-      pub refused-10 : k .room < 3072 → searchRefusal k ≡ 10
-      unfolding broken10
-      refused-10 h = past-9 ∙ on-broken line10 [] k (lt-ltb (k .room) 3072 h)
-
-      pub none-refused : 3072 ≤ k .room → searchRefusal k ≡ 0
-      unfolding broken10
-      none-refused h = past-9 ∙ on-unbroken line10 [] k (le-ltb (k .room) 3072 h)
+    pub none-refused : 3072 ≤ k .room → searchRefusal k ≡ 0
+    unfolding broken10
+    none-refused h = past-9 ∙ on-unbroken line10 [] k (le-ltb (k .room) 3072 h)
 
 -- ---- what the request comes to
 

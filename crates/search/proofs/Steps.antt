@@ -14,6 +14,7 @@
 --   Over               what is known of a run that has ended; over, run-is-over: a run has ended before its steps are at an end
 --   run-over, run-found, run-nothing, run-counted, run-complete, run-spent-at, run-spent, run-larger
 --                      what follows for the run to its ending
+--   within-claim       WithinClaim: what holds after any number of steps
 --
 -- Assumes nothing.
 use mathlib.Core.Path.{_≡_, refl, sym, _∙_, ap, subst}
@@ -29,11 +30,9 @@ use borrow.Author.Tests.{ltb-true, ltb-false, eqb-true, eqb-false, eq-eqb, ne-eq
 use Rattle.plan.specs.Plan.{Belt}
 use Rattle.plan.proofs.Lists.{test}
 use Rattle.route.specs.Subproblems.{Subproblem, relaxed}
-use Rattle.search.specs.declared.state.Ending.{Ending}
-use Rattle.search.specs.declared.state.Ending.the-variants.{GoesOn, Found, Nothing, Spent}
 use Rattle.search.specs.Search.{Problem, State, begun, branched, tested, settingOf, compared, improves, considered, takeAt, openNext, nextOf, next, stateAt, takenOff}
-use Rattle.search.specs.Search.{Turn, atEnd, budgeted, stepOf, step, onward, runs, run}
-use Rattle.search.specs.Claims.{WaitsAt}
+use Rattle.search.specs.Search.{Ending, foundRoute, foundNone, budgetSpent, Turn, atEnd, budgeted, stepOf, step, onward, runs, run}
+use Rattle.search.specs.Claims.{WaitsAt, WithinClaim}
 
 -- ---- the count: what is done with a subproblem that was taken does not change it
 
@@ -47,7 +46,7 @@ module _ (q : Problem) (x : Subproblem) (st : State) where
   tested-opened r (some σ) = refl
 
   compared-opened : (r : List Belt) (t : Bool) → compared q x st r t .opened ≡ st .opened
-  compared-opened r true = tested-opened r (settingOf (q .plan) r)
+  compared-opened r true = tested-opened r (settingOf (q .terms) r)
   compared-opened r false = refl
 
   considered-opened : (o : Option (List Belt)) → considered q x st o .opened ≡ st .opened
@@ -134,62 +133,58 @@ finding budget st = go (st .waiting) refl (test (eqb (st .opened) budget))
 
 -- what a step that ends hands back
 abbrev unchanged : State → Ending → Turn
-unchanged st e = record { state = st; ending = e }
+unchanged st e = record { state = st; ending = some e }
 
 module _ (q : Problem) (budget : ℕ) (st : State) where
   step-empty : st .waiting ≡ [] → step q budget st ≡ unchanged st (atEnd (st .best))
   step-empty w = ap (stepOf q budget st) w
 
   module _ (x : Subproblem) (xs : List Subproblem) (w : st .waiting ≡ x ∷ xs) where
-    step-spent : st .opened ≡ budget → step q budget st ≡ unchanged st Spent
+    step-spent : st .opened ≡ budget → step q budget st ≡ unchanged st budgetSpent
     step-spent e = ap (stepOf q budget st) w ∙ ap (budgeted q st x xs) (eq-eqb (st .opened) budget e)
 
-    step-opens : (st .opened ≡ budget → ⊥) → step q budget st ≡ record { state = openNext q st x xs; ending = GoesOn }
+    step-opens : (st .opened ≡ budget → ⊥) → step q budget st ≡ record { state = openNext q st x xs; ending = none }
     step-opens e = ap (stepOf q budget st) w ∙ ap (budgeted q st x xs) (ne-eqb (st .opened) budget e)
 
 -- ---- endings are apart, and the ending where nothing waits tells whether a best is held
 
-spent-goes : Spent ≡ GoesOn → ⊥
-spent-goes e = let z : _≡_ {A = ℕ} 0 1 = cc in absurd (omega arith)
+ends-goes : (e : Ending) → some e ≡ none → ⊥
+ends-goes e h = Option·none-ne-some e (sym h)
 
-found-unspent : {e : Ending} → e ≡ Found → e ≡ Spent → ⊥
+found-unspent : {o : Option Ending} → o ≡ some foundRoute → o ≡ some budgetSpent → ⊥
 found-unspent h k = let z : _≡_ {A = ℕ} 0 1 = cc in absurd (omega arith)
 
-nothing-unspent : {e : Ending} → e ≡ Nothing → e ≡ Spent → ⊥
+nothing-unspent : {o : Option Ending} → o ≡ some foundNone → o ≡ some budgetSpent → ⊥
 nothing-unspent h k = let z : _≡_ {A = ℕ} 0 1 = cc in absurd (omega arith)
 
-at-end-goes : (o : Option (List Belt)) → atEnd o ≡ GoesOn → ⊥
-at-end-goes none e = let z : _≡_ {A = ℕ} 0 1 = cc in absurd (omega arith)
-at-end-goes (some r) e = let z : _≡_ {A = ℕ} 0 1 = cc in absurd (omega arith)
-
-at-end-spent : (o : Option (List Belt)) → atEnd o ≡ Spent → ⊥
+at-end-spent : (o : Option (List Belt)) → some (atEnd o) ≡ some budgetSpent → ⊥
 at-end-spent none e = let z : _≡_ {A = ℕ} 0 1 = cc in absurd (omega arith)
 at-end-spent (some r) e = let z : _≡_ {A = ℕ} 0 1 = cc in absurd (omega arith)
 
-at-end-found : (o : Option (List Belt)) → atEnd o ≡ Found → (r : List Belt) × (o ≡ some r)
+at-end-found : (o : Option (List Belt)) → some (atEnd o) ≡ some foundRoute → (r : List Belt) × (o ≡ some r)
 at-end-found none e = let z : _≡_ {A = ℕ} 0 1 = cc in absurd (omega arith)
 at-end-found (some r) e = (r, refl)
 
-at-end-nothing : (o : Option (List Belt)) → atEnd o ≡ Nothing → o ≡ none
+at-end-nothing : (o : Option (List Belt)) → some (atEnd o) ≡ some foundNone → o ≡ none
 at-end-nothing none e = refl
 at-end-nothing (some r) e = let z : _≡_ {A = ℕ} 0 1 = cc in absurd (omega arith)
 
 -- ---- for a loop over `step`
 
 -- a step that goes on has opened one, and the budget was not spent
-goes-opens : (q : Problem) (budget : ℕ) (st : State) → step q budget st .ending ≡ GoesOn
+goes-opens : (q : Problem) (budget : ℕ) (st : State) → step q budget st .ending ≡ none
     → (step q budget st .state .opened ≡ suc (st .opened)) × (st .opened ≡ budget → ⊥)
 goes-opens q budget st g = go (finding budget st)
   where
-    ending : {t : Turn} → step q budget st ≡ t → t .ending ≡ GoesOn
+    ending : {t : Turn} → step q budget st ≡ t → t .ending ≡ none
     ending h = sym (ap (λ (t : Turn). t .ending) h) ∙ g
 
     go : Finding budget st → (step q budget st .state .opened ≡ suc (st .opened)) × (st .opened ≡ budget → ⊥)
-    go (empty w) = absurd (at-end-goes (st .best) (ending (step-empty q budget st w)))
-    go (spent x xs w e) = absurd (spent-goes (ending (step-spent q budget st x xs w e)))
+    go (empty w) = absurd (ends-goes (atEnd (st .best)) (ending (step-empty q budget st w)))
+    go (spent x xs w e) = absurd (ends-goes budgetSpent (ending (step-spent q budget st x xs w e)))
     go (opens x xs w e) = (ap (λ (t : Turn). t .state .opened) (step-opens q budget st x xs w e) ∙ opens-one q st x xs, e)
 
-pub run-goes : (q : Problem) (budget : ℕ) (st : State) → st .opened ≤ budget → step q budget st .ending ≡ GoesOn
+pub run-goes : (q : Problem) (budget : ℕ) (st : State) → st .opened ≤ budget → step q budget st .ending ≡ none
     → (step q budget st .state .opened ≡ suc (st .opened)) × (st .opened < budget)
     × (runs q budget (suc (budget - st .opened)) st ≡ runs q budget (suc (budget - step q budget st .state .opened)) (step q budget st .state))
 run-goes q budget st h g =
@@ -199,21 +194,19 @@ run-goes q budget st h g =
     let left : budget - st .opened ≡ suc (budget - after .opened) = omega (arith, one) in
     (one, below, ap (onward (runs q budget (budget - st .opened)) after) g ∙ ap (λ (n : ℕ). runs q budget n after) left)
 
-pub run-ends : (q : Problem) (budget n : ℕ) (st : State) → (step q budget st .ending ≡ GoesOn → ⊥) → runs q budget (suc n) st ≡ step q budget st
+pub run-ends : (q : Problem) (budget n : ℕ) (st : State) → (step q budget st .ending ≡ none → ⊥) → runs q budget (suc n) st ≡ step q budget st
 run-ends q budget n st h = go (step q budget st .state) (step q budget st .ending) h
   where
-    go : (at : State) (e : Ending) → (e ≡ GoesOn → ⊥) → onward (runs q budget n) at e ≡ unchanged at e
-    go at GoesOn k = absurd (k refl)
-    go at Found k = refl
-    go at Nothing k = refl
-    go at Spent k = refl
+    go : (at : State) (o : Option Ending) → (o ≡ none → ⊥) → onward (runs q budget n) at o ≡ record { state = at; ending = o }
+    go at none k = absurd (k refl)
+    go at (some e) k = refl
 
 -- ---- the run to its ending
 
 -- how a run ends: nothing waits, or one waits and as many are opened as the budget has
 data How (budget : ℕ) (v : Turn) : Type 0 where
-  whole : v .state .waiting ≡ [] → v .ending ≡ atEnd (v .state .best) → How budget v
-  short : (v .state .waiting ≡ [] → ⊥) → v .state .opened ≡ budget → v .ending ≡ Spent → How budget v
+  whole : v .state .waiting ≡ [] → v .ending ≡ some (atEnd (v .state .best)) → How budget v
+  short : (v .state .waiting ≡ [] → ⊥) → v .state .opened ≡ budget → v .ending ≡ some budgetSpent → How budget v
 
 -- what is known of a run that has ended: it stands in a state of the sequence
 record Over (q : Problem) (budget : ℕ) (v : Turn) : Type 0 where
@@ -228,16 +221,16 @@ over q budget zero st h l f = absurd (omega arith)
 over q budget (suc n) st h l f = go (over q budget n) (finding budget st)
   where
     -- by a step that ends
-    ends-here : (e : Ending) → step q budget st ≡ unchanged st e → (e ≡ GoesOn → ⊥) → runs q budget (suc n) st ≡ unchanged st e
-    ends-here e k g = run-ends q budget n st (λ j. g (sym (ap (λ (t : Turn). t .ending) k) ∙ j)) ∙ k
+    ends-here : (e : Ending) → step q budget st ≡ unchanged st e → runs q budget (suc n) st ≡ unchanged st e
+    ends-here e k = run-ends q budget n st (λ j. ends-goes e (sym (ap (λ (t : Turn). t .ending) k) ∙ j)) ∙ k
 
     go : ((at : State) → stateAt q (at .opened) ≡ some at → at .opened ≤ budget → budget < n + at .opened → Over q budget (runs q budget n at))
         → Finding budget st → Over q budget (runs q budget (suc n) st)
     go below (empty w) =
-        subst (Over q budget) (sym (ends-here (atEnd (st .best)) (step-empty q budget st w) (at-end-goes (st .best))))
+        subst (Over q budget) (sym (ends-here (atEnd (st .best)) (step-empty q budget st w)))
         (record { counted = h; within = l; how = whole w refl })
     go below (spent x xs w e) =
-        subst (Over q budget) (sym (ends-here Spent (step-spent q budget st x xs w e) spent-goes))
+        subst (Over q budget) (sym (ends-here budgetSpent (step-spent q budget st x xs w e)))
         (record { counted = h; within = l; how = short (λ k. cons-ne-nil x xs (sym w ∙ k)) e refl })
     go below (opens x xs w e) =
         let after = openNext q st x xs in
@@ -251,37 +244,37 @@ run-is-over q budget = over q budget (suc budget) begun refl (omega arith) (omeg
 
 module _ {q : Problem} {budget : ℕ} {v : Turn} (o : Over q budget v) where
   -- a run that is not spent is whole
-  unspent : (v .ending ≡ Spent → ⊥) → (v .state .waiting ≡ []) × (v .ending ≡ atEnd (v .state .best))
+  unspent : (v .ending ≡ some budgetSpent → ⊥) → (v .state .waiting ≡ []) × (v .ending ≡ some (atEnd (v .state .best)))
   unspent h = go (o .how)
     where
-      go : How budget v → (v .state .waiting ≡ []) × (v .ending ≡ atEnd (v .state .best))
+      go : How budget v → (v .state .waiting ≡ []) × (v .ending ≡ some (atEnd (v .state .best)))
       go (whole w e) = (w, e)
       go (short u n e) = absurd (h e)
 
   -- one that is spent stands in the state of the budget, and one waits
-  spent-there : v .ending ≡ Spent → (v .state .opened ≡ budget) × (v .state .waiting ≡ [] → ⊥)
+  spent-there : v .ending ≡ some budgetSpent → (v .state .opened ≡ budget) × (v .state .waiting ≡ [] → ⊥)
   spent-there h = go (o .how)
     where
       go : How budget v → (v .state .opened ≡ budget) × (v .state .waiting ≡ [] → ⊥)
       go (whole w e) = absurd (at-end-spent (v .state .best) (sym e ∙ h))
       go (short u n e) = (n, u)
 
-  spent-waits : v .ending ≡ Spent → WaitsAt q budget
+  spent-waits : v .ending ≡ some budgetSpent → WaitsAt q budget
   spent-waits h = let (n, u) = spent-there h in (v .state, ap (stateAt q) (sym n) ∙ o .counted, u)
 
   -- where nothing waits in it, nothing waits at the budget or later
   whole-for-good : v .state .waiting ≡ [] → (n : ℕ) → budget ≤ n → WaitsAt q n → ⊥
   whole-for-good w n l k = let up : v .state .opened ≤ budget = o .within in none-waits q (v .state .opened) (v .state) (o .counted) w n (omega arith) k
 
-  goes-never : v .ending ≡ GoesOn → ⊥
+  goes-never : v .ending ≡ none → ⊥
   goes-never h = go (o .how)
     where
       go : How budget v → ⊥
-      go (whole w e) = at-end-goes (v .state .best) (sym e ∙ h)
-      go (short u n e) = spent-goes (sym e ∙ h)
+      go (whole w e) = ends-goes (atEnd (v .state .best)) (sym e ∙ h)
+      go (short u n e) = ends-goes budgetSpent (sym e ∙ h)
 
 -- two runs that are not spent end alike: the last state is one
-same-end : {q : Problem} {a b : ℕ} {v w : Turn} → Over q a v → Over q b w → (v .ending ≡ Spent → ⊥) → (w .ending ≡ Spent → ⊥) → v ≡ w
+same-end : {q : Problem} {a b : ℕ} {v w : Turn} → Over q a v → Over q b w → (v .ending ≡ some budgetSpent → ⊥) → (w .ending ≡ some budgetSpent → ⊥) → v ≡ w
 same-end {q} {a} {b} {v} {w} o p h k =
     let (empty-v, ending-v) = unspent o h in
     let (empty-w, ending-w) = unspent p k in
@@ -290,37 +283,65 @@ same-end {q} {a} {b} {v} {w} o p h k =
     let up : m ≤ n = last-is-last q n (w .state) (p .counted) empty-w m (v .state) (o .counted) in
     let down : n ≤ m = last-is-last q m (v .state) (o .counted) empty-v n (w .state) (p .counted) in
     let state : v .state ≡ w .state = same-state q m n (v .state) (w .state) (o .counted) (p .counted) (omega arith) in
-    let ending : v .ending ≡ w .ending = ending-v ∙ ap (λ (at : State). atEnd (at .best)) state ∙ sym ending-w in
+    let ending : v .ending ≡ w .ending = ending-v ∙ ap (λ (at : State). some (atEnd (at .best))) state ∙ sym ending-w in
     λ i. record { state = state i; ending = ending i }
 
 module _ (q : Problem) (budget : ℕ) where
-  pub run-over : run q budget .ending ≡ GoesOn → ⊥
+  pub run-over : run q budget .ending ≡ none → ⊥
   run-over h = goes-never (run-is-over q budget) h
 
-  pub run-found : run q budget .ending ≡ Found → (r : List Belt) × (run q budget .state .best ≡ some r)
+  pub run-found : run q budget .ending ≡ some foundRoute → (r : List Belt) × (run q budget .state .best ≡ some r)
   run-found h = at-end-found (run q budget .state .best) (sym (unspent (run-is-over q budget) (found-unspent h) .1) ∙ h)
 
-  pub run-nothing : run q budget .ending ≡ Nothing → run q budget .state .best ≡ none
+  pub run-nothing : run q budget .ending ≡ some foundNone → run q budget .state .best ≡ none
   run-nothing h = at-end-nothing (run q budget .state .best) (sym (unspent (run-is-over q budget) (nothing-unspent h) .1) ∙ h)
 
   pub run-counted : stateAt q (run q budget .state .opened) ≡ some (run q budget .state)
   run-counted = run-is-over q budget .counted
 
-  pub run-complete : (run q budget .ending ≡ Spent → ⊥) → run q budget .state .waiting ≡ []
+  pub run-complete : (run q budget .ending ≡ some budgetSpent → ⊥) → run q budget .state .waiting ≡ []
   run-complete h = unspent (run-is-over q budget) h .0
 
-  pub run-spent-at : run q budget .ending ≡ Spent → run q budget .state .opened ≡ budget
+  pub run-spent-at : run q budget .ending ≡ some budgetSpent → run q budget .state .opened ≡ budget
   run-spent-at h = spent-there (run-is-over q budget) h .0
 
-  pub run-spent : (run q budget .ending ≡ Spent) ↔ WaitsAt q budget
+  pub run-spent : (run q budget .ending ≡ some budgetSpent) ↔ WaitsAt q budget
   run-spent = (spent-waits (run-is-over q budget), λ k. go k (run-is-over q budget .how))
     where
-      go : WaitsAt q budget → How budget (run q budget) → run q budget .ending ≡ Spent
+      go : WaitsAt q budget → How budget (run q budget) → run q budget .ending ≡ some budgetSpent
       go k (whole w e) = absurd (whole-for-good (run-is-over q budget) w budget (omega arith) k)
       go k (short u n e) = e
 
-  pub run-larger : (run q budget .ending ≡ Spent → ⊥) → (more : ℕ) → budget ≤ more → run q more ≡ run q budget
+  pub run-larger : (run q budget .ending ≡ some budgetSpent → ⊥) → (more : ℕ) → budget ≤ more → run q more ≡ run q budget
   run-larger h more l =
-      let unspent-more : run q more .ending ≡ Spent → ⊥ =
+      let unspent-more : run q more .ending ≡ some budgetSpent → ⊥ =
       λ k. whole-for-good (run-is-over q budget) (run-complete h) more l (spent-waits (run-is-over q more) k) in
       same-end (run-is-over q more) (run-is-over q budget) unspent-more h
+
+-- ---- any number of steps
+
+-- after any number of steps from a state of the sequence a run stands in one, and has opened no more than the budget
+runs-within : (q : Problem) (budget n : ℕ) (st : State) → stateAt q (st .opened) ≡ some st → st .opened ≤ budget
+    → (runs q budget n st .state .opened ≤ budget) × (stateAt q (runs q budget n st .state .opened) ≡ some (runs q budget n st .state))
+runs-within q budget zero st h l = (l, h)
+runs-within q budget (suc n) st h l = go (runs-within q budget n) (finding budget st)
+  where
+    Stands : Turn → Type 0
+    Stands v = (v .state .opened ≤ budget) × (stateAt q (v .state .opened) ≡ some (v .state))
+
+    stays : (e : Ending) → step q budget st ≡ unchanged st e → Stands (runs q budget (suc n) st)
+    stays e k = subst Stands (sym (ap (λ (t : Turn). onward (runs q budget n) (t .state) (t .ending)) k)) (l, h)
+
+    go : ((at : State) → stateAt q (at .opened) ≡ some at → at .opened ≤ budget → Stands (runs q budget n at))
+        → Finding budget st → Stands (runs q budget (suc n) st)
+    go below (empty w) = stays (atEnd (st .best)) (step-empty q budget st w)
+    go below (spent x xs w e) = stays budgetSpent (step-spent q budget st x xs w e)
+    go below (opens x xs w e) =
+        let after = openNext q st x xs in
+        let one : after .opened ≡ suc (st .opened) = opens-one q st x xs in
+        let counted : stateAt q (after .opened) ≡ some after = ap (stateAt q) one ∙ state-next q (st .opened) st x xs h w in
+        subst Stands (sym (ap (λ (t : Turn). onward (runs q budget n) (t .state) (t .ending)) (step-opens q budget st x xs w e)))
+        (below after counted (omega (arith, one, e)))
+
+pub within-claim : WithinClaim
+within-claim q budget n = runs-within q budget n begun refl (omega arith)

@@ -7,27 +7,33 @@
 --                       the interface, 64 bits wide, so its upper bound is no test
 --   EndsClaim           DEMAND 1: then the request comes to a route, to none or to spent (Answered), by a run that has ended
 --   UnchangedClaim      DEMAND 1: on a refusal, and on none and spent too, every byte of the out buffer is as it was
---   AcceptedClaim       DEMAND 2, last clause: what a search writes is a sheet that the check accepts, and behind it no byte differs
+--   AcceptedClaim       DEMAND 2, last clause: what a search writes is a sheet that the check accepts and that reads as the route, and behind it
+--                       no byte differs
 --   RightClaim          DEMAND 3: a request that is not refused comes to what is Right:
---     IsPermitted p s t r
---                       r is a route from s to t and permitted
---     Cheapest p s t es c σ
---                       the belts es are a route from s to t that is permitted, costs c, has the lowest setting σ, and comes before every
---                       other permitted route
+--     Cheapest p trip es c σ
+--                       the belts es are a permitted route of the trip, cost c, have the lowest setting σ, and come before every other
+--                       permitted route
 --     WaitsAt q n       the written search without a budget has a state number n, and a subproblem waits in it
 --     IsSpent o, openedOf o, withBudget k n
 --                       an outcome is spent; its count; the request with another budget
 --     Right             (1) to (6), each in its own field
+--   SolvesClaim         DEMAND 3 in the words of source document 000 (Solved): a route found solves the problem, that is, its path is feasible and
+--                       of minimal cost; and none only if no path is feasible
 -- Laws that later changes rest on:
 --   Permits q r         r is a permitted route of the problem q
---   Explores q          what is asked of a problem: the belts of its plan are those of accepted bytes (its rules may be others), and the
---                       picking rule picks an unfixed named belt while there is one
+--   Explores q          what is asked of a problem: the belts of its plan are those of accepted bytes (its rules may be others), each belt in a
+--                       rule to be met is a named one, and the picking rule picks an unfixed named belt while there is one
 --   RunRight q budget   (1) to (6) for such a problem: said of the run, and proved for any choice and any picking rule
 --   AnyChoiceClaim      every such problem's run is right, whatever the budget
 --   CoverageClaim       in every state of the sequence every permitted route is the best, comes after it, or is admitted by a waiting
 --                       subproblem (Covers); for any choice of the next subproblem and any picking rule
 --   BoundClaim          such a sequence has no state number 2^(k+1) - 1 or higher in which one waits
 --   DepthClaim          where the newest is taken next, at most k + 1 wait, and the i-th oldest fixes at least i - 1 belts
+--   FixesClaim          every waiting subproblem of every state fixes named belts only, and none twice (FixesNamed, NoneTwice)
+--   BestClaim           the best of every state is a permitted route
+--   WithinClaim         after any number of steps a run stands in a state of the sequence, and has opened no more than the budget
+--   SoundClaim          so after any number of steps of a search that is asked for, at most 49 wait, the i-th oldest fixes at least i - 1 belts,
+--                       each fixes named belts only and none twice, the best is a permitted route, and the budget is not exceeded (Sound)
 --   ValidClaim          a Search holds nothing beside its state
 --
 -- Assumes nothing.
@@ -36,23 +42,26 @@ use mathlib.Core.Bool.{true}
 use mathlib.Core.Logic.{_⊎_, _↔_}
 use mathlib.Core.Option.{none, some}
 use Prim.Native.Nat.{ℕ, _+_, _-_, _^_, _≤_, _<_}
-use mathlib.Core.List.{List, [], List·Memᴰ}
+use mathlib.Core.List.{List, [], _∷_, _++_, map, List·Memᴰ}
 use lib.ListN.{length, getD, take, drop}
-use Rattle.plan.specs.Plan.{Belt, Plan, planOf, namesOf, named}
+use Rattle.plan.specs.Lists.{any}
+use Rattle.plan.specs.Plan.{Belt, Plan, planOf, namesOf, inRule, named}
 use Rattle.plan.specs.Limits.{Limits}
-use Rattle.plan.specs.Claims.{FirstIn}
+use Rattle.plan.specs.Claims.{Unbroken, FirstIn}
 use Rattle.plan.specs.Reading.{Accepted, Bytes}
 use Rattle.route.specs.Routes.{IsRoute, cost, before}
-use Rattle.route.specs.Permission.{passes, Permitted, lowest}
+use Rattle.route.specs.declared.path.Trip.{Trip}
+use Rattle.route.specs.Lcsp.{Arc, weightOf, Feasible, Solves}
+use Rattle.route.specs.Instances.{instanceOf}
+use Rattle.route.specs.Permission.{passes, termsOf, Permitted, IsPermitted, lowest}
 use Rattle.route.specs.Subproblems.{Subproblem, admits}
-use Rattle.route.specs.Sheets.{sheetOf}
+use Rattle.route.specs.Sheets.{sheetOf, Reads}
 use Rattle.route.specs.Refusals.{sheetRefusal}
 use Rattle.route.specs.Values.{caseOf}
 use Rattle.search.specs.declared.state.Search.{Search}
-use Rattle.search.specs.declared.state.Ending.the-variants.{GoesOn, Found, Nothing, Spent}
 use Rattle.search.specs.Branching.{unfixed, fixedCount}
-use Rattle.search.specs.Search.{Problem, State, free, stateAt, run}
-use Rattle.search.specs.Answers.{Request, searchLines, searchRefusal, Outcome, refused, route, nothing, spent, outcome, problemIn, outAfter}
+use Rattle.search.specs.Search.{Problem, State, free, begun, stateAt, foundRoute, foundNone, budgetSpent, runs, run}
+use Rattle.search.specs.Answers.{Asked, Request, queryLines, searchLines, searchRefusal, Outcome, refused, route, nothing, spent, paused, outcome, problemIn, outAfter}
 use Rattle.search.specs.Values.{stateIn, Valid}
 
 -- ---- demand 1
@@ -80,7 +89,7 @@ Answered o = ((es : List ℕ) × (c : ℕ) × (σ : ℕ) × (n : ℕ) × (o ≡ 
 
 abbrev pub EndsClaim : Type 0
 EndsClaim = (k : Request) → searchRefusal k ≡ 0
-    → Answered (outcome k) × (run (problemIn (k .plan) (k .query)) (k .query .budget) .ending ≡ GoesOn → ⊥)
+    → Answered (outcome k) × (run (problemIn (k .plan) (k .query)) (k .query .budget) .ending ≡ none → ⊥)
 
 abbrev pub UnchangedClaim : Type 0
 UnchangedClaim = (k : Request) (out : List ℕ) → ((es : List ℕ) (c σ n : ℕ) → outcome k ≡ route es c σ n → ⊥) → outAfter (outcome k) out ≡ out
@@ -93,19 +102,17 @@ AcceptedClaim = (k : Request) → Bytes (k .plan) → (out : List ℕ) → lengt
     × (take (length (sheetOf es c σ)) (outAfter (outcome k) out) ≡ sheetOf es c σ)
     × (drop (length (sheetOf es c σ)) (outAfter (outcome k) out) ≡ drop (length (sheetOf es c σ)) out)
     × (sheetRefusal (caseOf (k .plan) (k .query .trip) (take (length (sheetOf es c σ)) (outAfter (outcome k) out))) ≡ 0)
+    × Reads (sheetOf es c σ) es c σ
 
 -- ---- demand 3
 
-abbrev pub IsPermitted : Plan → ℕ → ℕ → List Belt → Type 0
-IsPermitted p s t r = IsRoute p s t r × Permitted (p .rules) (p .modes) r
-
-pub record Cheapest (p : Plan) (s t : ℕ) (es : List ℕ) (c σ : ℕ) : Type 0 where
+pub record Cheapest (p : Plan) (trip : Trip) (es : List ℕ) (c σ : ℕ) : Type 0 where
   pub belts : List Belt
   pub names : namesOf belts ≡ es
-  pub permitted : IsPermitted p s t belts
+  pub permitted : IsPermitted p trip belts
   pub costs : cost belts ≡ c
-  pub setting : lowest (p .rules) (p .modes) (passes belts) ≡ some σ
-  pub first : (r : List Belt) → IsPermitted p s t r → (r ≡ belts → ⊥) → before belts r ≡ true
+  pub setting : lowest (termsOf p trip) (passes belts) ≡ some σ
+  pub first : (r : List Belt) → IsPermitted p trip r → (r ≡ belts → ⊥) → before belts r ≡ true
 
 abbrev pub WaitsAt : Problem → ℕ → Type 0
 WaitsAt q n = (st : State) × (stateAt q n ≡ some st) × (st .waiting ≡ [] → ⊥)
@@ -115,6 +122,7 @@ openedOf (refused n) = 0
 openedOf (route es c σ n) = n
 openedOf (nothing n) = n
 openedOf (spent n) = n
+openedOf (paused n) = n
 
 abbrev pub withBudget : Request → ℕ → Request
 withBudget k budget = record {
@@ -129,10 +137,10 @@ IsSpent o = (n : ℕ) × (o ≡ spent n)
 pub record Right (k : Request) : Type 0 where
   -- (1) a route found is permitted, its cost and its lowest setting are right, and it comes before every other permitted route
   pub found : (es : List ℕ) (c σ n : ℕ) → outcome k ≡ route es c σ n
-      → Cheapest (planOf (k .plan)) (k .query .trip .s) (k .query .trip .t) es c σ
+      → Cheapest (planOf (k .plan)) (k .query .trip) es c σ
   -- (2) none only if no route is permitted
   pub none-permitted : (n : ℕ) → outcome k ≡ nothing n
-      → (r : List Belt) → IsPermitted (planOf (k .plan)) (k .query .trip .s) (k .query .trip .t) r → ⊥
+      → (r : List Belt) → IsPermitted (planOf (k .plan)) (k .query .trip) r → ⊥
   -- (3) spent exactly when the written search has opened as many subproblems as the budget and at least one waits
   pub spent-when : IsSpent (outcome k) ↔ WaitsAt (problemIn (k .plan) (k .query)) (k .query .budget)
   -- (4) never with a budget of 2^(k+1) - 1 or more
@@ -147,31 +155,41 @@ pub record Right (k : Request) : Type 0 where
 abbrev pub RightClaim : Type 0
 RightClaim = (k : Request) → searchRefusal k ≡ 0 → Right k
 
+pub record Solved (k : Request) : Type 0 where
+  pub found : (es : List ℕ) (c σ n : ℕ) → outcome k ≡ route es c σ n
+      → (p : List Arc) × (map (λ (a : Arc). a .number) p ≡ es) × (weightOf p ≡ c) × Solves (instanceOf (planOf (k .plan)) (k .query .trip)) p
+  pub infeasible : (n : ℕ) → outcome k ≡ nothing n → (p : List Arc) → Feasible (instanceOf (planOf (k .plan)) (k .query .trip)) p → ⊥
+
+abbrev pub SolvesClaim : Type 0
+SolvesClaim = (k : Request) → searchRefusal k ≡ 0 → Solved k
+
 -- ---- laws for later changes
 
 abbrev pub Permits : Problem → List Belt → Type 0
-Permits q r = IsPermitted (q .plan) (q .s) (q .t) r
+Permits q r = IsRoute (q .plan) (q .s) (q .t) r × Permitted (q .terms) r
 
 pub record Explores (q : Problem) : Type 0 where
   pub bytes : List ℕ
   pub accepted : Accepted bytes
   pub belts-are : q .plan .belts ≡ planOf bytes .belts
+  -- each belt in a rule to be met is a named belt
+  pub rules-named : (e : ℕ) → any (inRule e) (q .terms .rules) ≡ true → List·Memᴰ e (named (q .plan))
   -- what is picked is an unfixed named belt
   pub picks : (x : Subproblem) (r : List Belt) (e : ℕ) → q .pick x r ≡ some e → List·Memᴰ e (unfixed (q .plan) x)
   -- and one is picked while there is one
   pub picks-one : (x : Subproblem) (r : List Belt) → q .pick x r ≡ none → unfixed (q .plan) x ≡ []
 
 pub record RunRight (q : Problem) (budget : ℕ) : Type 0 where
-  pub ends : run q budget .ending ≡ GoesOn → ⊥
-  pub found : run q budget .ending ≡ Found → (r : List Belt) × (run q budget .state .best ≡ some r) × Permits q r
+  pub ends : run q budget .ending ≡ none → ⊥
+  pub found : run q budget .ending ≡ some foundRoute → (r : List Belt) × (run q budget .state .best ≡ some r) × Permits q r
       × ((x : List Belt) → Permits q x → (x ≡ r → ⊥) → before r x ≡ true)
-  pub none-permitted : run q budget .ending ≡ Nothing → (r : List Belt) → Permits q r → ⊥
-  pub spent-when : (run q budget .ending ≡ Spent) ↔ WaitsAt q budget
-  pub never-spent : 2 ^ (length (named (q .plan)) + 1) - 1 ≤ budget → run q budget .ending ≡ Spent → ⊥
+  pub none-permitted : run q budget .ending ≡ some foundNone → (r : List Belt) → Permits q r → ⊥
+  pub spent-when : (run q budget .ending ≡ some budgetSpent) ↔ WaitsAt q budget
+  pub never-spent : 2 ^ (length (named (q .plan)) + 1) - 1 ≤ budget → run q budget .ending ≡ some budgetSpent → ⊥
   pub counted : stateAt q (run q budget .state .opened) ≡ some (run q budget .state)
-  pub complete : (run q budget .ending ≡ Spent → ⊥) → run q budget .state .waiting ≡ []
-  pub spent-at : run q budget .ending ≡ Spent → run q budget .state .opened ≡ budget
-  pub larger : (run q budget .ending ≡ Spent → ⊥) → (more : ℕ) → budget ≤ more → run q more ≡ run q budget
+  pub complete : (run q budget .ending ≡ some budgetSpent → ⊥) → run q budget .state .waiting ≡ []
+  pub spent-at : run q budget .ending ≡ some budgetSpent → run q budget .state .opened ≡ budget
+  pub larger : (run q budget .ending ≡ some budgetSpent → ⊥) → (more : ℕ) → budget ≤ more → run q more ≡ run q budget
 
 abbrev pub AnyChoiceClaim : Type 0
 AnyChoiceClaim = (q : Problem) → Explores q → (budget : ℕ) → RunRight q budget
@@ -191,6 +209,37 @@ DepthClaim = (q : Problem) → Explores q → ((st : State) → q .choose st ≡
     → (length (st .waiting) ≤ length (named (q .plan)) + 1)
     × ((i j : ℕ) → 1 ≤ i → i + j ≡ length (st .waiting) → i - 1 ≤ fixedCount (q .plan) (getD (st .waiting) j free))
 
+-- no number stands in the list twice
+abbrev pub NoneTwice : List ℕ → Type 0
+NoneTwice [] = Unit {0}
+NoneTwice (e ∷ es) = (List·Memᴰ e es → ⊥) × NoneTwice es
+
+pub record FixesNamed (p : Plan) (x : Subproblem) : Type 0 where
+  pub named-only : (e : ℕ) → List·Memᴰ e (x .required ++ x .forbidden) → List·Memᴰ e (named p)
+  pub none-twice : NoneTwice (x .required ++ x .forbidden)
+
+abbrev pub FixesClaim : Type 0
+FixesClaim = (q : Problem) → Explores q → (n : ℕ) (st : State) → stateAt q n ≡ some st
+    → (x : Subproblem) → List·Memᴰ x (st .waiting) → FixesNamed (q .plan) x
+
+abbrev pub BestClaim : Type 0
+BestClaim = (q : Problem) → Explores q → (n : ℕ) (st : State) → stateAt q n ≡ some st → (r : List Belt) → st .best ≡ some r → Permits q r
+
+abbrev pub WithinClaim : Type 0
+WithinClaim = (q : Problem) (budget n : ℕ)
+    → (runs q budget n begun .state .opened ≤ budget) × (stateAt q (runs q budget n begun .state .opened) ≡ some (runs q budget n begun .state))
+
+-- what holds between any two steps of a search that is asked for
+pub record Sound (k : Asked) (st : State) : Type 0 where
+  pub few : length (st .waiting) ≤ 49
+  pub deep : (i j : ℕ) → 1 ≤ i → i + j ≡ length (st .waiting) → i - 1 ≤ fixedCount (planOf (k .plan)) (getD (st .waiting) j free)
+  pub fixes : (x : Subproblem) → List·Memᴰ x (st .waiting) → FixesNamed (planOf (k .plan)) x
+  pub permitted : (r : List Belt) → st .best ≡ some r → IsPermitted (planOf (k .plan)) (k .query .trip) r
+  pub within : st .opened ≤ k .query .budget
+
+abbrev pub SoundClaim : Type 0
+SoundClaim = (k : Asked) → Unbroken queryLines k → (n : ℕ) → Sound k (runs (problemIn (k .plan) (k .query)) (k .query .budget) n begun .state)
+
 abbrev pub ValidClaim : Type 0
 ValidClaim = (b : List ℕ) → Accepted b → (v w : Search) → length (v .waiting) ≡ 49 → length (w .waiting) ≡ 49 → Valid b v → Valid b w
     → stateIn b v ≡ stateIn b w → v ≡ w
@@ -203,8 +252,13 @@ pub record Claims : Type 0 where
   pub unchanged : UnchangedClaim
   pub accepted : AcceptedClaim
   pub right : RightClaim
+  pub solves : SolvesClaim
   pub any-choice : AnyChoiceClaim
   pub coverage : CoverageClaim
   pub bound : BoundClaim
   pub depth : DepthClaim
+  pub fixes : FixesClaim
+  pub best : BestClaim
+  pub within : WithinClaim
+  pub sound : SoundClaim
   pub valid : ValidClaim

@@ -34,7 +34,7 @@ use Rattle.plan.specs.Lists.{counted, keep, upto}
 use Rattle.plan.specs.Plan.{Belt, planOf, named}
 use Rattle.route.specs.declared.path.Route.{Route}
 use Rattle.route.specs.declared.relax.Fixings.{Fixings}
-use Rattle.route.specs.Permission.{lowest}
+use Rattle.route.specs.Permission.{planTerms, termsOf, lowest}
 use Rattle.route.specs.Values.{packed, routeIn, routeOf, inMask, withPlace, subproblemIn}
 use Rattle.search.specs.declared.query.Query.{Query}
 use Rattle.search.specs.declared.state.Search.{Search}
@@ -102,9 +102,9 @@ judgedIn b q f on false = Drop
 judgedIn b q f on true =
     testedAs
     (pickedPlace (named (planOf b)) (pickOf (q .pick) (planOf b) (subproblemIn b f) on))
-    (lowest (planOf b .rules) (planOf b .modes) on)
+    (lowest (termsOf (planOf b) (q .trip)) on)
 
 -- ---- answers
 
 abbrev pub bestOf : List ℕ → Search → Outcome
-bestOf b v = bestRoute (planOf b) (v .opened) (some (routeIn b (v .best)))
+bestOf b v = bestRoute (planTerms (planOf b)) (v .opened) (some (routeIn b (v .best)))

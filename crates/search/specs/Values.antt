@@ -7,6 +7,7 @@
 --   waitingIn b xs n    the subproblems of the plan b that the first n masks of the array xs stand for, the last of them first: the newest
 --                       stands last in the array
 --   bestIn b t r        the best route of the plan b that a Search holds, if t says that it holds one; stateIn b v: the state that it stands for
+--   endingIn e          the ending that the code's enum stands for, none where the search goes on
 --   turnIn b v          what a step handed back stands for
 --   boundOf o           what a route may cost at most to improve on the best, o: as much as that, or any cost of a route where none is held;
 --                       boundIn b v: the same of the best that a Search holds
@@ -46,7 +47,9 @@ use Rattle.search.specs.declared.pick.Counts.{Counts}
 use Rattle.search.specs.declared.state.Search.{Search}
 use Rattle.search.specs.declared.state.Stepped.{Stepped}
 use Rattle.search.specs.Branching.{fixedCount, ruleCount}
-use Rattle.search.specs.Search.{State, Turn, step}
+use Rattle.search.specs.declared.state.Ending as code
+use Rattle.search.specs.declared.state.Ending.the-variants.{GoesOn, Found, Nothing, Spent}
+use Rattle.search.specs.Search.{State, Ending, foundRoute, foundNone, budgetSpent, Turn, step}
 use Rattle.search.specs.Answers.{Request, problemIn}
 
 -- ---- picks
@@ -80,8 +83,14 @@ bestIn b false r = none
 abbrev pub stateIn : List ℕ → Search → State
 stateIn b v = record { waiting = waitingIn b (v .waiting) (v .count); opened = v .opened; best = bestIn b (v .found) (v .best) }
 
+abbrev pub endingIn : code.Ending → Option Ending
+endingIn GoesOn = none
+endingIn Found = some foundRoute
+endingIn Nothing = some foundNone
+endingIn Spent = some budgetSpent
+
 abbrev pub turnIn : List ℕ → Stepped → Turn
-turnIn b v = record { state = stateIn b (v .search); ending = v .ending }
+turnIn b v = record { state = stateIn b (v .search); ending = endingIn (v .ending) }
 
 abbrev pub boundOf : Option (List Belt) → ℕ
 boundOf none = costLimit - 1

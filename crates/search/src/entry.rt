@@ -40,6 +40,8 @@ pub enum Answer {
     Nothing(u64),
     // The budget is spent: how many were opened.
     Spent(u64),
+    // The search is not at its end: how many were opened. A search to its end never answers so.
+    Paused(u64),
     // Refused by the first broken one of lines 1 to 10.
     Refused(Refusal),
 }
@@ -70,7 +72,11 @@ fn write_best(
     search: Search,
     out: &mut [u8],
 ) -> Answer
-    requires { ⌜ Accepted (now p) × (now places ≡ namedPlaces (now p)) × Clauses (now p) (now clauses) × Valid (now p) search × (3072 ≤ length (now out)) ⌝ }
+    requires { ⌜ Accepted (now p)
+        × (now places ≡ namedPlaces (now p))
+        × Clauses (now p) (now clauses)
+        × Valid (now p) search
+        × (3072 ≤ length (now out)) ⌝ }
     ensures { λ v. ⌜ Told (replyOf v) (now (out .entry)) (now (out .exit)) (bestOf (now (p .entry)) search) ⌝ }
 {
     let route = search.best;
@@ -119,7 +125,7 @@ fn find_over(
         Ending::Found => write_best(p, places, clauses, search, out),
         Ending::Nothing => Answer::Nothing(search.opened),
         Ending::Spent => Answer::Spent(search.opened),
-        Ending::GoesOn => Answer::Spent(search.opened),
+        Ending::GoesOn => Answer::Paused(search.opened),
     }
 }
 
@@ -182,6 +188,11 @@ pub fn numbers(answer: Answer) -> Reply
         },
         Answer::Spent(opened) => Reply {
             number: 101,
+            opened: opened,
+            size: 0,
+        },
+        Answer::Paused(opened) => Reply {
+            number: 102,
             opened: opened,
             size: 0,
         },

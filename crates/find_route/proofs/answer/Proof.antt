@@ -7,7 +7,7 @@ use lib.ListN.{length, drop, replicate, length-append}
 use lib.Seq.{length-take-le}
 use Rattle.route.specs.Sheets.{sheetOf}
 use Rattle.search.specs.declared.entry.Reply.{Reply}
-use Rattle.search.specs.Answers.{Outcome, refused, route, nothing, spent, replyTo, replyOf, outAfter, outcome, Told}
+use Rattle.search.specs.Answers.{Outcome, refused, route, nothing, spent, paused, replyTo, replyOf, outAfter, outcome, Told}
 use Rattle.search.specs.Values.{requestOf}
 use borrow.Author.Needs.{needs}
 use Rattle.find_route.proofs.answer.Statement.{statement}
@@ -31,6 +31,7 @@ told-fits v before after o told = go o (ap (λ (r : Reply). r .size) (told .0)) 
     go (route es c σ n) e l = omega (arith, length-append (sheetOf es c σ) (drop (length (sheetOf es c σ)) before))
     go (nothing n) e l = omega arith
     go (spent n) e l = omega arith
+    go (paused n) e l = omega arith
 
 fits : (c : tie.After-numbers) → c .numbers .result .size ≤ length (c .before .before .search .last .1 .1 .0)
 fits c =

@@ -5,16 +5,17 @@ use native.Mathlib.Omega.{arith}
 use lib.ListN.{length}
 use borrow.Author.Needs.{needs}
 use borrow.Author.Tests.{not-true, not-false}
+use Rattle.plan.specs.Refusals.{refusal, numberOf}
+use Rattle.plan.specs.Claims.{Unbroken}
 use Rattle.plan.specs.Reading.{Accepted}
-use Rattle.plan.specs.Refusals.{numberOf}
 use Rattle.plan.proofs.Numbers.{nonzero}
 use Rattle.route.specs.declared.sheet.Sheet.{Sheet}
-use Rattle.route.specs.Refusals.{Case, broken8}
+use Rattle.route.specs.Refusals.{Case, planTrip, tripLines}
 use Rattle.route.specs.Values.{idsOf, caseOf}
 use Rattle.route.specs.Sheets.{inForm, beltsOn}
 use Rattle.route.proofs.ByName.{ids-packed}
 use Rattle.route.proofs.Readings.{form-is, few-belts}
-use Rattle.route.proofs.Checked.{refused-plan, refused-8, no-form, content-refused, ends-wrong, ends-fine, ends-inside}
+use Rattle.route.proofs.Checked.{ends-trip, trip-plan, trip-8, trip-refused, no-form, content-refused, ends-wrong, ends-fine}
 use Rattle.route.proofs.check.check.Statement.{statement}
 use Rattle.route.proofs.check.check.Tie as tie
 
@@ -32,8 +33,10 @@ enum-known-verdict c = search needs
 returns : tie.Need-returns
 returns c =
     let start = c .before .before .before .before .before .before in
+    let r = c .before .verdict .given .0 .0 in
     let answer = sym (ap numberOf (c .before .verdict .given .1)) ∙ c .before .before .before .check .ensures in
-    answer ∙ sym (refused-plan (case start) (λ z. nonzero (c .before .verdict .given .0 .0) (answer ∙ z)))
+    let broken : refusal (start .args .p .now) ≡ 0 → ⊥ = λ z. nonzero r (answer ∙ z) in
+    answer ∙ sym (trip-refused (case start) _ broken (trip-plan (planTrip (case start)) broken))
 
 enum-told : tie.Need-enum-told
 enum-told c = search needs
@@ -49,13 +52,14 @@ returns-2 : tie.Need-returns-2
 returns-2 c =
     let past = c .before .before in
     let start = past .before .before .before .before .before in
-    sym (refused-8 (case start) (accepted past) (ends-wrong (case start) (sym (c .before .wrong-ends .ensures) ∙ c .if1 .taken)))
+    let k = planTrip (case start) in
+    sym (trip-refused (case start) 8 (λ z. omega arith) (trip-8 k (accepted past) (ends-wrong k (sym (c .before .wrong-ends .ensures) ∙ c .if1 .taken))))
 
 -- past the test of s and t
-ends : (c : tie.Else1) → broken8 (case (c .before .before .before .before .before .before .before)) ≡ false
-ends c =
-    let start = c .before .before .before .before .before .before .before in
-    ends-fine (case start) (sym (c .before .wrong-ends .ensures) ∙ c .if1 .left)
+fine : (c : tie.Else1) → Unbroken tripLines (planTrip (case (c .before .before .before .before .before .before .before)))
+fine c =
+    let k = planTrip (case (c .before .before .before .before .before .before .before)) in
+    ends-trip k (accepted (c .before .before)) (ends-fine k (sym (c .before .wrong-ends .ensures) ∙ c .if1 .left))
 
 in-form-requires : tie.Need-in-form-requires
 in-form-requires c κs = search needs
@@ -66,7 +70,7 @@ returns-3 c =
     let past = at .before .before in
     let start = past .before .before .before .before .before in
     let this = sym (c .before .in-form .ensures) ∙ not-true (c .before .in-form .result) (c .if2 .taken) in
-    sym (no-form (case start) (accepted past) (ends at) this)
+    sym (no-form (case start) (fine at) this)
 
 -- past the test of the form
 form : (c : tie.Else2) → inForm (case (c .before .before .before .before .before .before .before .before .before) .sheet) ≡ true
@@ -80,9 +84,8 @@ check-content-requires c κs =
     let at = c .before .before .before in
     let past = at .before .before in
     let start = past .before .before .before .before .before in
-    let within = ends-inside (case start) (ends at) in
     let count : c .read .result .route .count ≡ length (beltsOn (start .args .h .now)) = ap (λ (v : Sheet). v .route .count) (c .read .ensures) in
-    (accepted past, within .0, within .1, omega (arith, few-belts (start .args .h .now) (form-is (start .args .h .now) (form (c .before)))))
+    (accepted past, sym (at .before .wrong-ends .ensures) ∙ at .if1 .left, omega (arith, few-belts (start .args .h .now) (form-is (start .args .h .now) (form (c .before)))))
 
 returns-4 : tie.Need-returns-4
 returns-4 c =
@@ -94,7 +97,7 @@ returns-4 c =
     let read = c .before .read .ensures in
     let ids = ap (λ (v : Sheet). idsOf (v .route)) read ∙ ids-packed (beltsOn h) (few-belts h (form-is h formed)) in
     c .check-content .ensures
-    ∙ sym (content-refused (case start) (accepted past) (ends at) (c .before .read .result) formed ids (ap (λ (v : Sheet). v .cost) read) (ap (λ (v : Sheet). v .setting) read))
+    ∙ sym (content-refused (case start) (fine at) (c .before .read .result) formed ids (ap (λ (v : Sheet). v .cost) read) (ap (λ (v : Sheet). v .setting) read))
 
 pub check-spec : {M : Type 1} → statement M
 check-spec =

@@ -8,10 +8,10 @@ use borrow.Author.Tests.{eq-eqb, ne-eqb, not-true, not-false}
 use Rattle.plan.specs.Lists.{all, mem}
 use Rattle.plan.specs.Plan.{planOf, namesOf}
 use Rattle.route.specs.Routes.{connects, cost}
-use Rattle.route.specs.Permission.{passes, allMet}
+use Rattle.route.specs.Permission.{passes, termsOf, works}
 use Rattle.route.specs.Values.{idsOf, Known, routeIn}
 use Rattle.route.specs.Inner.{sheetBy}
-use Rattle.route.proofs.ByName.{known-belts}
+use Rattle.route.proofs.ByName.{known-belts, ends-junctions}
 use Rattle.route.proofs.check.check_content.Statement.{statement}
 use Rattle.route.proofs.check.check_content.Tie as tie
 
@@ -23,13 +23,13 @@ abbrev low : tie.Start → Bool
 low c = ltb (c .args .sheet .setting) (2 ^ planOf (c .args .p .now) .modes)
 
 abbrev joined : tie.Start → Bool
-joined c = connects (c .args .s) (c .args .t) (routeIn (c .args .p .now) (c .args .sheet .route))
+joined c = connects (c .args .trip .s) (c .args .trip .t) (routeIn (c .args .p .now) (c .args .sheet .route))
 
 abbrev summed : tie.Start → Bool
 summed c = eqb (cost (routeIn (c .args .p .now) (c .args .sheet .route))) (c .args .sheet .cost)
 
 abbrev ruled : tie.Start → Bool
-ruled c = allMet (planOf (c .args .p .now) .rules) (passes (routeIn (c .args .p .now) (c .args .sheet .route))) (c .args .sheet .setting)
+ruled c = works (termsOf (planOf (c .args .p .now)) (c .args .trip)) (passes (routeIn (c .args .p .now) (c .args .sheet .route))) (c .args .sheet .setting)
 
 are-belts-requires : tie.Need-are-belts-requires
 are-belts-requires c κs = search needs
@@ -51,7 +51,7 @@ known : (c : tie.Else1) → Known (c .before .before .before .before .args .p .n
 known c =
     let start = c .before .before .before .before in
     record {
-      few = start .pre .3;
+      few = start .pre .2;
       belts = known-belts (start .pre .0) (idsOf (start .args .sheet .route)) (are-known c);
     }
 
@@ -72,7 +72,9 @@ fits c =
 connects-requires : tie.Need-connects-requires
 connects-requires c κs =
     let start = c .before .before .before .before .before .before in
-    (start .pre .0, known (c .before .before), start .pre .1, start .pre .2)
+    let trip = start .args .trip in
+    let (s-low, s-high, t-low, t-high) = ends-junctions (planOf (start .args .p .now)) (trip .s) (trip .t) (start .pre .1) in
+    (start .pre .0, known (c .before .before), s-low, s-high)
 
 returns-3 : tie.Need-returns-3
 returns-3 c =

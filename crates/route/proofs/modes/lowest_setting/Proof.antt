@@ -1,12 +1,13 @@
 -- `route::modes::lowest_setting` meets its contract: `settle` begins with the highest mode of the plan. Assumes nothing.
 use mathlib.Core.Path.{_≡_, _∙_, ap}
-use Prim.Native.Nat.{ℕ, _≤_}
+use Prim.Native.Nat.{ℕ, _^_, _≤_}
 use native.Mathlib.Omega.{arith}
 use borrow.Author.Needs.{needs}
+use Rattle.plan.specs.Lists.{run}
 use Rattle.plan.specs.Plan.{planOf}
 use Rattle.plan.proofs.Reading.{plan-sizes}
-use Rattle.route.specs.Permission.{lowest}
-use Rattle.route.specs.Values.{settingIn, hasBelt}
+use Rattle.route.specs.Permission.{find, planTerms, works}
+use Rattle.route.specs.Values.{hasBelt}
 use Rattle.route.proofs.Lowest.{all-modes}
 use Rattle.route.proofs.modes.lowest_setting.Statement.{statement}
 use Rattle.route.proofs.modes.lowest_setting.Tie as tie
@@ -32,8 +33,7 @@ returns c =
     let start = counted .before .before .before in
     let p = start .args .p .now in
     let on = hasBelt p (start .args .belts) in
-    let found : settingIn (c .settle .result) ≡ lowest (planOf p .rules) (counted .modes .result) on = c .settle .ensures in
-    found ∙ ap (λ (m : ℕ). lowest (planOf p .rules) m on) (counted .modes .ensures)
+    c .settle .ensures ∙ ap (λ (m : ℕ). find (works (planTerms (planOf p)) on) (run 0 (2 ^ m))) (counted .modes .ensures)
 
 pub lowest-setting-spec : {M : Type 1} → statement M
 lowest-setting-spec = tie.close (tie.spec modes-requires cast-t5 settle-requires returns)

@@ -78,7 +78,7 @@ returns-4 c =
     let ran = c .before .before .before in
     let start = begun ran in
     let out = start .args .out .now in
-    subst (Told (reply 101 (ran .run .result .search .opened) 0) out out)
+    subst (Told (reply 102 (ran .run .result .search .opened) 0) out out)
     (turn-ended (start .args .p .now) (start .args .query) (ran .run .result) (ran .run .ensures .0) out GoesOn (c .enum-told4 .given .1))
     (refl, refl)
 

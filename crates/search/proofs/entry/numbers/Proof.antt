@@ -18,6 +18,9 @@ enum-known-answer-3 c = search needs
 enum-known-answer-4 : tie.Need-enum-known-answer-4
 enum-known-answer-4 c = search needs
 
+enum-known-answer-5 : tie.Need-enum-known-answer-5
+enum-known-answer-5 c = search needs
+
 number-requires : tie.Need-number-requires
 number-requires c κs = search needs
 
@@ -31,7 +34,10 @@ returns-3 : tie.Need-returns-3
 returns-3 c = sym (ap replyOf (c .before .answer3 .given .1))
 
 returns-4 : tie.Need-returns-4
-returns-4 c = ap (λ (n : ℕ). reply n 0 0) (c .number .ensures) ∙ sym (ap replyOf (c .before .before .answer4 .given .1))
+returns-4 c = sym (ap replyOf (c .before .answer4 .given .1))
+
+returns-5 : tie.Need-returns-5
+returns-5 c = ap (λ (n : ℕ). reply n 0 0) (c .number .ensures) ∙ sym (ap replyOf (c .before .before .answer5 .given .1))
 
 pub numbers-spec : {M : Type 1} → statement M
 numbers-spec =
@@ -41,8 +47,10 @@ numbers-spec =
     enum-known-answer-2
     enum-known-answer-3
     enum-known-answer-4
+    enum-known-answer-5
     number-requires
     returns
     returns-2
     returns-3
-    returns-4)
+    returns-4
+    returns-5)

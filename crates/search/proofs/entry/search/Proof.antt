@@ -6,18 +6,21 @@ use borrow.Author.Needs.{needs}
 use Rattle.plan.specs.declared.refusal.Refusal.the-variants.{WrongEnds, WrongQuery, ShortBuffer}
 use Rattle.plan.specs.Plan.{planOf}
 use Rattle.plan.specs.Refusals.{numberOf}
+use Rattle.plan.specs.Claims.{Unbroken}
 use Rattle.plan.specs.Reading.{Accepted}
 use Rattle.plan.proofs.Numbers.{nonzero}
 use Rattle.route.specs.Routes.{wrongEnds}
-use Rattle.search.specs.Answers.{Request, wrongQuery, replyOf, Told}
+use Rattle.route.specs.Refusals.{tripLines}
+use Rattle.route.proofs.Checked.{trip-plan, trip-8, ends-trip, ends-wrong, ends-fine}
+use Rattle.search.specs.Answers.{Request, tripIn, asked, wrongQuery, replyOf, Told}
 use Rattle.search.specs.Values.{requestOf}
-use Rattle.search.proofs.Replies.{plan-refused, refused-8, refused-9, refused-10, none-refused, outcome-by, refused-told}
+use Rattle.search.proofs.Replies.{trip-refused, refused-9, refused-10, none-refused, outcome-by, refused-told}
 use Rattle.search.proofs.entry.search.Statement.{statement}
 use Rattle.search.proofs.entry.search.Tie as tie
 
 -- the request that is answered
-abbrev asked : tie.Start → Request
-asked c = requestOf (c .args .p .now) (c .args .query) (c .args .out .now)
+abbrev request : tie.Start → Request
+request c = requestOf (c .args .p .now) (c .args .query) (c .args .out .now)
 
 check-requires : tie.Need-check-requires
 check-requires c κs = search needs
@@ -31,13 +34,14 @@ returns c =
     let start = c .before .before .before .before .before .before in
     let r = c .before .verdict .given .0 .0 in
     let answer = sym (ap numberOf (c .before .verdict .given .1)) ∙ c .before .before .before .check .ensures in
-    refused-told (asked start) r (start .args .out .now) (plan-refused (asked start) (λ z. nonzero r (answer ∙ z)) ∙ sym answer)
+    let lines = trip-plan (tripIn (asked (request start))) (λ z. nonzero r (answer ∙ z)) ∙ sym answer in
+    refused-told (request start) r (start .args .out .now) (trip-refused (request start) _ (nonzero r) lines)
 
 enum-told : tie.Need-enum-told
 enum-told c = search needs
 
 -- past the check of the plan: it is accepted
-accepted : (c : tie.After-enum-told) → Accepted (asked (c .before .before .before .before .before) .plan)
+accepted : (c : tie.After-enum-told) → Accepted (request (c .before .before .before .before .before) .plan)
 accepted c = record { unrefused = sym (c .before .before .check .ensures) ∙ ap numberOf (c .enum-told .given .1) }
 
 wrong-ends-requires : tie.Need-wrong-ends-requires
@@ -47,14 +51,20 @@ returns-2 : tie.Need-returns-2
 returns-2 c =
     let past = c .before .before in
     let start = past .before .before .before .before .before in
-    refused-told (asked start) WrongEnds (start .args .out .now)
-    (refused-8 (asked start) (accepted past) (sym (c .before .wrong-ends .ensures) ∙ c .if1 .taken))
+    let trip = tripIn (asked (request start)) in
+    let lines = trip-8 trip (accepted past) (ends-wrong trip (sym (c .before .wrong-ends .ensures) ∙ c .if1 .taken)) in
+    refused-told (request start) WrongEnds (start .args .out .now) (trip-refused (request start) 8 (nonzero WrongEnds) lines)
 
 -- past the test of s and t
 ends : (c : tie.Else1)
     → (let start = c .before .before .before .before .before .before .before in
     wrongEnds (planOf (start .args .p .now)) (start .args .query .trip .s) (start .args .query .trip .t) ≡ false)
 ends c = sym (c .before .wrong-ends .ensures) ∙ c .if1 .left
+
+past-trip : (c : tie.Else1) → Unbroken tripLines (tripIn (asked (request (c .before .before .before .before .before .before .before))))
+past-trip c =
+    let trip = tripIn (asked (request (c .before .before .before .before .before .before .before))) in
+    ends-trip trip (accepted (c .before .before)) (ends-fine trip (ends c))
 
 wrong-query-requires : tie.Need-wrong-query-requires
 wrong-query-requires c κs = search needs
@@ -64,8 +74,8 @@ returns-3 c =
     let at = c .before .before in
     let past = at .before .before in
     let start = past .before .before .before .before .before in
-    refused-told (asked start) WrongQuery (start .args .out .now)
-    (refused-9 (asked start) (accepted past) (ends at) (sym (c .before .wrong-query .ensures) ∙ c .if2 .taken))
+    refused-told (request start) WrongQuery (start .args .out .now)
+    (refused-9 (request start) (past-trip at) (sym (c .before .wrong-query .ensures) ∙ c .if2 .taken))
 
 -- past the test of the query
 fine : (c : tie.Else2) → wrongQuery (c .before .before .before .before .before .before .before .before .before .args .query) ≡ false
@@ -77,8 +87,8 @@ returns-4 c =
     let at = query .before .before in
     let past = at .before .before in
     let start = past .before .before .before .before .before in
-    refused-told (asked start) ShortBuffer (start .args .out .now)
-    (refused-10 (asked start) (accepted past) (ends at) (fine query) (let short = c .if3 .taken in omega arith))
+    refused-told (request start) ShortBuffer (start .args .out .now)
+    (refused-10 (request start) (past-trip at) (fine query) (let short = c .if3 .taken in omega arith))
 
 find-route-requires : tie.Need-find-route-requires
 find-route-requires c κs =
@@ -97,9 +107,9 @@ returns-5 c =
     let at = query .before .before in
     let past = at .before .before in
     let start = past .before .before .before .before .before in
-    let none = none-refused (asked start) (accepted past) (ends at) (fine query) (room .if3 .left) in
+    let none = none-refused (request start) (past-trip at) (fine query) (room .if3 .left) in
     subst (Told (replyOf (found .find-route .result)) (start .args .out .now) (found .find-route .last .1 .1 .0))
-    (outcome-by (asked start) 0 none) (found .find-route .ensures)
+    (outcome-by (request start) 0 none) (found .find-route .ensures)
 
 pub search-spec : {M : Type 1} → statement M
 search-spec =

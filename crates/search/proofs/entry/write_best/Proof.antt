@@ -4,7 +4,7 @@ use Prim.Native.Nat.{ℕ}
 use mathlib.Core.List.{List}
 use borrow.Author.Needs.{needs}
 use Rattle.plan.specs.Plan.{planOf}
-use Rattle.route.specs.Permission.{lowest}
+use Rattle.route.specs.Permission.{planTerms, lowest}
 use Rattle.route.specs.Values.{idsOf, OfNamed, gatheredIn, maskOf, hasBelt}
 use Rattle.route.proofs.Holding.{known-low, route-placeable, mask-named, lowest-mask}
 use Rattle.search.specs.Answers.{orZero}
@@ -55,8 +55,8 @@ returns c =
     let b = start .args .p .now in
     let search = start .args .search in
     let setting = told .lowest-setting .ensures
-    ∙ ap (λ (m : ℕ). lowest (planOf b .rules) (planOf b .modes) (hasBelt b m)) (mask gathered)
-    ∙ lowest-mask (start .pre .0) (search .best) (start .pre .3 .known) (planOf b .modes) in
+    ∙ ap (λ (m : ℕ). lowest (planTerms (planOf b)) (hasBelt b m)) (mask gathered)
+    ∙ lowest-mask (start .pre .0) (search .best) (start .pre .3 .known) in
     written-best (start .pre .0) search (start .pre .3 .known) _ _ (written .write .result) (start .args .out .now) _
     (gathered .before .cost .ensures .0)
     (written .before .before .setting-of .ensures ∙ ap orZero setting)

@@ -29,7 +29,7 @@ use Rattle.search.specs.declared.state.Judged.{Judged}
 use Rattle.search.specs.declared.state.Judged.the-variants.{Best}
 use Rattle.search.specs.Search.{considered}
 use Rattle.search.specs.Answers.{problemIn}
-use Rattle.search.specs.Values.{noFixings, stateIn, turnIn, boundIn, Valid, stepIn, newestOf, relaxedIn, keptBy, keptIn}
+use Rattle.search.specs.Values.{noFixings, stateIn, endingIn, turnIn, boundIn, Valid, stepIn, newestOf, relaxedIn, keptBy, keptIn}
 use Rattle.search.specs.Inner.{endedAs, heldAs, betterIn, judgedIn}
 use Rattle.search.proofs.Holding.{places, settledTo, Room, Taken, Settles, popped, count-few, popped-taken}
 use Rattle.search.proofs.Opening.{OnRoute, answered, judged-same, judged-settles, step-empty, step-spent, step-goes}
@@ -48,7 +48,7 @@ returns c =
     let v = start .args .self in
     let room = start .args .kept .now in
     let kept : Bool → List ℕ = λ t. keptBy t (atMost (boundIn b v) (relaxedIn b (q .trip) (newestOf v))) room in
-    let (turn, same) : (record { state = stateIn b v; ending = endedAs (v .count) (v .found) } ≡ stepIn b q v) × (room ≡ keptIn b q v room) =
+    let (turn, same) : (record { state = stateIn b v; ending = endingIn (endedAs (v .count) (v .found)) } ≡ stepIn b q v) × (room ≡ keptIn b q v room) =
     ⊎-elim
     (λ w. (step-empty b q (q .budget) v (w .taken), sym (ap (λ (t : Bool). kept (t || eqb (v .opened) (q .budget))) (eq-eqb (v .count) 0 (w .taken)))))
     (λ w. (
@@ -56,7 +56,7 @@ returns c =
       sym (ap kept ((λ i. eqb (v .count) 0 || w .3 .taken i) ∙ or-true (eqb (v .count) 0))),
     ))
     (c .before .if1 .came) in (
-      ap (λ (e : Ending). record { state = stateIn b v; ending = e }) (c .ended .ensures) ∙ turn,
+      ap (λ (e : Ending). record { state = stateIn b v; ending = endingIn e }) (c .ended .ensures) ∙ turn,
       start .pre .1,
       start .pre .3,
       refl,
