@@ -3,7 +3,7 @@ use Rattle.route.specs.Claims.{Claims}
 use Rattle.route.proofs.Condition.{order-free}
 use Rattle.route.proofs.Plans.{cost-weight}
 use Rattle.route.proofs.Feasible.{met-claim, permitted-claim, paths-claim}
-use Rattle.route.proofs.Order.{order-claim, ends-claim}
+use Rattle.route.proofs.Order.{order-claim, upward-claim}
 use Rattle.route.proofs.Enumeration.{routes-claim}
 use Rattle.route.proofs.Firsts.{relaxed-claim}
 use Rattle.route.proofs.Cut.{cut-claim}
@@ -25,7 +25,7 @@ claims = record {
   lowest = lowest-claim;
   mask = mask-claim;
   order = order-claim;
-  ends = ends-claim;
+  upward = upward-claim;
   routes = routes-claim;
   relaxed = relaxed-claim;
   cut = cut-claim;

@@ -22,7 +22,7 @@ use Rattle.route.specs.Permission.{passes}
 use Rattle.route.specs.Subproblems.{Crosses, Restricts}
 use Rattle.route.specs.Claims.{CutClaim}
 use Rattle.route.proofs.ByName.{route-belts}
-use Rattle.route.proofs.Order.{ends-claim}
+use Rattle.route.proofs.Order.{upward-claim}
 
 pub in-passes : (r : List Belt) (g : Belt) → List·Memᴰ g r → passes r (g .name) ≡ true
 in-passes r g m = in-any (λ (f : Belt). eqb (f .name) (g .name)) r m (eq-eqb (g .name) (g .name) refl)
@@ -38,7 +38,7 @@ module _ {b : List ℕ} (ok : Accepted b) where
   pub route-between : (s t : ℕ) (r : List Belt) → IsRoute (planOf b) s t r → (e : Belt) → List·Memᴰ e r → (s ≤ e .leaves) × (e .leads ≤ t)
   route-between s t [] h e m = absurd (List·Memᴰ·not-nil m)
   route-between s t (a ∷ r) h e m =
-      each (λ (f : Belt). (s ≤ f .leaves) × (f .leads ≤ t)) (omega (arith, h .1), ends-claim b ok (a .leads) t r (h .2) .0) (λ f k.
+      each (λ (f : Belt). (s ≤ f .leaves) × (f .leads ≤ t)) (omega (arith, h .1), upward-claim b ok (a .leads) t r (h .2) .0) (λ f k.
       let (l, u) = route-between (a .leads) t r (h .2) f k in
       (omega (arith, h .1, belt-ends ok a (h .0) .1, l), u)) e m
 

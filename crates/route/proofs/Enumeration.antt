@@ -20,7 +20,7 @@ use Rattle.plan.proofs.Rising.{Rises, more}
 use Rattle.plan.proofs.Reading.{in-leaving, leaving-in, belts-rise, belt-ends}
 use Rattle.route.specs.Routes.{IsRoute, stay, routesOf, Distinct}
 use Rattle.route.specs.Claims.{RoutesClaim}
-use Rattle.route.proofs.Order.{ends-claim}
+use Rattle.route.proofs.Order.{upward-claim}
 
 -- ---- the parts of `routesOf`
 
@@ -75,12 +75,12 @@ module _ {b : List ℕ} (ok : Accepted b) (t : ℕ) where
   complete : (n s : ℕ) (r : List Belt) → t ≤ s + n → IsRoute (planOf b) s t r → List·Memᴰ r (routesOf (planOf b) n s t)
   complete zero s [] u h = subst (List·Memᴰ []) (sym (stay-from (eqb s t))) (here-listed s [] h)
   complete (suc n) s [] u h = here-listed s (onward (planOf b) s (λ (u : ℕ). routesOf (planOf b) n u t)) h
-  complete zero s (e ∷ r) u h = absurd (omega (arith, h .1, belt-ends ok e (h .0) .1, ends-claim b ok (e .leads) t r (h .2) .0))
+  complete zero s (e ∷ r) u h = absurd (omega (arith, h .1, belt-ends ok e (h .0) .1, upward-claim b ok (e .leads) t r (h .2) .0))
   complete (suc n) s (e ∷ r) u h =
       let f : ℕ → List (List Belt) = λ (u : ℕ). routesOf (planOf b) n u t in
       let w : e .leaves ≡ s = h .1 in
       let up : e .leaves < e .leads = belt-ends ok e (h .0) .1 in
-      let top : e .leads ≤ t = ends-claim b ok (e .leads) t r (h .2) .0 in
+      let top : e .leads ≤ t = upward-claim b ok (e .leads) t r (h .2) .0 in
       later-listed s (onward (planOf b) s f) (e ∷ r) (omega arith)
       (in-joined (via f)
       (in-leaving (planOf b) s e (h .0) w)

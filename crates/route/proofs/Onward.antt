@@ -39,7 +39,7 @@ use Rattle.route.specs.Values.{atMost}
 use Rattle.route.specs.Inner.{isRequired, isForbidden, isOwed, remaining, wayOn, wayCost}
 use Rattle.route.proofs.ByName.{route-length}
 use Rattle.route.proofs.Bounded.{at-most-none}
-use Rattle.route.proofs.Order.{before-cons, ends-claim}
+use Rattle.route.proofs.Order.{before-cons, upward-claim}
 use Rattle.route.proofs.Firsts.{admits-is, is-admits, relaxed-some, relaxed-none, is-relaxed, no-relaxed}
 use Rattle.route.proofs.Cut.{in-passes, on-route, route-between, cut-claim}
 
@@ -104,7 +104,7 @@ module _ {b : List ℕ} (ok : Accepted b) (x : Subproblem) (t u : ℕ) (e : Belt
   up = belt-ends ok e (h .0) .1
 
   top : e .leads ≤ t
-  top = ends-claim b ok (e .leads) t r (h .2) .0
+  top = upward-claim b ok (e .leads) t r (h .2) .0
 
   -- the belts after e leave where e leads, or later
   later : (g : Belt) → List·Memᴰ g r → e .leads ≤ g .leaves
@@ -183,10 +183,10 @@ module _ {b : List ℕ} (ok : Accepted b) (x : Subproblem) (t : ℕ) where
   way-end =
       is-relaxed ok t t (remaining (planOf b) x t t) [] refl
       (owed-admits ok x t t [] (record { has = λ g l. absurd (omega (arith, l .from, l .before-t)); allowed = λ e m. refl }))
-      (λ q h a. ap (λ (r : List Belt). before r []) (ends-claim b ok t t q h .1 refl))
+      (λ q h a. ap (λ (r : List Belt). before r []) (upward-claim b ok t t q h .1 refl))
 
   pub relaxed-past : (u : ℕ) → t < u → relaxed (planOf b) u t x ≡ none
-  relaxed-past u l = no-relaxed ok u t x (λ q h a. omega (arith, ends-claim b ok u t q h .0))
+  relaxed-past u l = no-relaxed ok u t x (λ q h a. omega (arith, upward-claim b ok u t q h .0))
 
   pub way-route : (u : ℕ) (r : List Belt) → wayOn (planOf b) x t u ≡ some r → IsRoute (planOf b) u t r
   way-route u r h = relaxed-some ok u t (remaining (planOf b) x t u) r h .0

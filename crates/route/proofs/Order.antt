@@ -9,7 +9,7 @@
 --   before-cons        which of two lists comes first does not change by a belt in front of both
 --   no-earlier         f ∷ s does not come before e ∷ r if it costs more, or as much and f has the higher name, or f the same and r is s
 --   before-total       two routes from s to t of which neither comes before the other are equal
---   ends-claim         there is no route from s to t where s > t, and only the empty one where s = t (EndsClaim)
+--   upward-claim       there is no route from s to t where s > t, and only the empty one where s = t (UpwardClaim)
 --   no-longer          no route from s to t goes on where another ends
 --   order-claim        all this as it is claimed (OrderClaim)
 --   lower-known        which of two known Routes is lower at the first difference is told by the names that they hold
@@ -33,7 +33,7 @@ use Rattle.route.specs.declared.path.Route.{Route}
 use Rattle.route.specs.Routes.{IsRoute, cost, first, lower, before}
 use Rattle.route.specs.Values.{idsOf, Known, routeIn}
 use Rattle.route.specs.Inner.{lowerIds}
-use Rattle.route.specs.Claims.{OrderClaim, EndsClaim}
+use Rattle.route.specs.Claims.{OrderClaim, UpwardClaim}
 use Rattle.route.proofs.ByName.{route-length, known-names}
 
 -- ---- one number, and the rest
@@ -178,8 +178,8 @@ no-earlier e f r s costs names same =
 
 -- ---- a belt leads higher
 
-pub ends-claim : EndsClaim
-ends-claim b ok s t r h = (omega (arith, route-length ok s t r h), empty r (route-length ok s t r h))
+pub upward-claim : UpwardClaim
+upward-claim b ok s t r h = (omega (arith, route-length ok s t r h), empty r (route-length ok s t r h))
   where
     empty : (r : List Belt) → s + length r ≤ t → s ≡ t → r ≡ []
     empty [] l e = refl
@@ -207,7 +207,7 @@ module _ {b : List ℕ} (ok : Accepted b) where
       lower-total s t x y p q l r
 
   pub no-longer : (s t : ℕ) (x y : List Belt) → IsRoute (planOf b) s t x → IsRoute (planOf b) s t (x ++ y) → y ≡ []
-  no-longer s t [] y p q = ends-claim b ok s t y q .1 p
+  no-longer s t [] y p q = upward-claim b ok s t y q .1 p
   no-longer s t (e ∷ x) y p q = no-longer (e .leads) t x y (p .2) (q .2)
 
 pub order-claim : OrderClaim

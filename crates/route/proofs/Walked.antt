@@ -28,7 +28,7 @@ use Rattle.route.specs.Routes.{cost, costLimit}
 use Rattle.route.specs.Values.{subproblemIn, withPlace, namedPlaces, gatheredIn, maskOf, summaryAs, keptOf}
 use Rattle.route.specs.Inner.{wayIn, wayCost, Guides}
 use Rattle.route.proofs.ByName.{route-few}
-use Rattle.route.proofs.Order.{ends-claim}
+use Rattle.route.proofs.Order.{upward-claim}
 use Rattle.route.proofs.Onward.{way-route, way-length, way-next}
 
 -- there is a way on if its cost is not that of none
@@ -115,7 +115,7 @@ module _ {b : List ℕ} (ok : Accepted b) {f : Fixings} {s t : ℕ} {start : Lis
 
     -- where t is reached nothing is left
     nothing-left : at ≡ t → w .rest ≡ []
-    nothing-left q = ends-claim b ok at t (w .rest) (way-route ok (subproblemIn b f) t at (w .rest) (w .on)) .1 q
+    nothing-left q = upward-claim b ok at t (w .rest) (way-route ok (subproblemIn b f) t at (w .rest) (w .on)) .1 q
 
     pub walked-whole : {c : ℕ} → c ≡ wayCost (wayIn b f t s) → at ≡ t
         → (_≡_ {A = Summary} (record { cost = c; count = count; named = m }) (summaryAs b (wayIn b f t s))) × (kept ≡ keptOf (wayIn b f t s) start)

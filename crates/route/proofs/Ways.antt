@@ -33,7 +33,7 @@ use Rattle.route.specs.Routes.{IsRoute, cost, costLimit, before}
 use Rattle.route.specs.Subproblems.{Subproblem, admits}
 use Rattle.route.specs.Inner.{isRequired, isForbidden, remaining, wayOn, wayCost, onBy, costBy, noWay, wayBy, Begins}
 use Rattle.route.proofs.ByName.{route-cheap}
-use Rattle.route.proofs.Order.{not-before-trans, before-cons, no-earlier, ends-claim}
+use Rattle.route.proofs.Order.{not-before-trans, before-cons, no-earlier, upward-claim}
 use Rattle.route.proofs.Enumeration.{leaving-rises}
 use Rattle.route.proofs.Firsts.{relaxed-some, relaxed-none, is-relaxed, no-relaxed}
 use Rattle.route.proofs.Onward.{Owed, owed-between, Goes, remaining-step, way-route}
@@ -170,7 +170,7 @@ module _ {b : List ℕ} (ok : Accepted b) (bytes : Bytes b) (x : Subproblem) (t 
         near : Goes b x u f → f .leads ≤ nearest
         near goes =
             ⊎-elim
-            (λ e. omega (arith, ends-claim b ok (f .leads) t q (h .2) .0))
+            (λ e. omega (arith, upward-claim b ok (f .leads) t q (h .2) .0))
             (λ w.
             let (g, i, r, e) = w in
             let not-past : nearest < f .leads → ⊥ =

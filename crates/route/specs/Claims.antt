@@ -13,7 +13,7 @@
 --   LowestClaim        `lowest` is the lowest setting that works, and there is none exactly when the route is not permitted
 --   MaskClaim          it does not depend on more than which of the named belts a route has: the mask of these has the route's lowest setting
 --   OrderClaim         "comes before" is a strict total order on the routes from s to t
---   EndsClaim          there is no route from s to t where s > t, and only the empty one where s = t
+--   UpwardClaim        there is no route from s to t where s > t, and only the empty one where s = t
 --   RoutesClaim        `routes` lists exactly the routes from s to t, each once
 -- Subproblems:
 --   RelaxedClaim       `relaxed` is the one admitted route that comes before every other, and there is none exactly when no route is admitted
@@ -97,8 +97,8 @@ OrderClaim = (b : List ℕ) → Accepted b → (s t : ℕ) →
     × ((x y : List Belt) → IsRoute (planOf b) s t x → IsRoute (planOf b) s t y → (x ≡ y → ⊥) → (before x y ≡ true) ⊎ (before y x ≡ true))
     × ((x y : List Belt) → IsRoute (planOf b) s t x → IsRoute (planOf b) s t (x ++ y) → y ≡ [])
 
-abbrev pub EndsClaim : Type 0
-EndsClaim = (b : List ℕ) → Accepted b → (s t : ℕ) (r : List Belt) → IsRoute (planOf b) s t r → (s ≤ t) × (s ≡ t → r ≡ [])
+abbrev pub UpwardClaim : Type 0
+UpwardClaim = (b : List ℕ) → Accepted b → (s t : ℕ) (r : List Belt) → IsRoute (planOf b) s t r → (s ≤ t) × (s ≡ t → r ≡ [])
 
 abbrev pub RoutesClaim : Type 0
 RoutesClaim = (b : List ℕ) → Accepted b → (s t : ℕ)
@@ -181,7 +181,7 @@ pub record Claims : Type 0 where
   pub lowest : LowestClaim
   pub mask : MaskClaim
   pub order : OrderClaim
-  pub ends : EndsClaim
+  pub upward : UpwardClaim
   pub routes : RoutesClaim
   pub relaxed : RelaxedClaim
   pub cut : CutClaim

@@ -7,7 +7,7 @@
 --                      the lines of what is asked are unbroken exactly where those of the trip and line 9 are; then the plan is accepted
 --   zero-query, zero-10, query-zero
 --                      the answer is 0 exactly where the lines of what is asked and line 10 are unbroken
---   limits-claim       LimitsClaim
+--   limits-claim       InLimitsClaim
 --   apart              0 is not 1: what an equation of two different forms comes to
 --   runOf k            the run of the request
 --   outcome-refused, outcome-ended
@@ -39,7 +39,7 @@ use Rattle.route.specs.Refusals.{tripLines}
 use Rattle.route.proofs.Checked.{trip-accepted, trip-ends, ends-trip, inside, ends-inside}
 use Rattle.search.specs.Search.{Ending, foundRoute, foundNone, budgetSpent, Turn, run}
 use Rattle.search.specs.Answers.{Asked, Request, tripIn, asked, broken9, broken10, line9, line10, queryLines, searchLines, searchRefusal, Outcome, refused, route, nothing, spent, paused, endingOf, endedBy, ended, problemIn, unlessRefused, outcome, outAfter}
-use Rattle.search.specs.Claims.{RefusedClaim, InLimits, LimitsClaim, Answered, UnchangedClaim}
+use Rattle.search.specs.Claims.{RefusedClaim, InLimits, InLimitsClaim, Answered, UnchangedClaim}
 
 -- ---- the first broken line
 
@@ -125,7 +125,7 @@ module _ (k : Request) where
   unfolding broken10
   long-buffer h = le-ltb (k .room) 3072 h
 
-pub limits-claim : LimitsClaim
+pub limits-claim : InLimitsClaim
 limits-claim k = (to, from)
   where
     to : InLimits k → searchRefusal k ≡ 0

@@ -30,7 +30,7 @@ use borrow.Author.Tests.{ltb-true, ltb-false, eqb-true, eqb-false, eq-eqb, ne-eq
 use Rattle.plan.specs.Plan.{Belt}
 use Rattle.plan.proofs.Lists.{test}
 use Rattle.route.specs.Subproblems.{Subproblem, relaxed}
-use Rattle.search.specs.Search.{Problem, State, begun, branched, tested, settingOf, compared, improves, considered, takeAt, openNext, nextOf, next, stateAt, takenOff}
+use Rattle.search.specs.Search.{Problem, State, begun, branched, tested, settingOf, compared, improves, considered, takeAt, openNext, nextAmong, next, stateAt, takenOff}
 use Rattle.search.specs.Search.{Ending, foundRoute, foundNone, budgetSpent, Turn, atEnd, budgeted, stepOf, step, onward, runs, run}
 use Rattle.search.specs.Claims.{WaitsAt, WithinClaim}
 
@@ -64,7 +64,7 @@ module _ (q : Problem) where
   -- the state after one in which some wait
   state-next : (n : ℕ) (st : State) (x : Subproblem) (xs : List Subproblem) → stateAt q n ≡ some st → st .waiting ≡ x ∷ xs
       → stateAt q (suc n) ≡ some (openNext q st x xs)
-  state-next n st x xs h w = ap (next q) h ∙ ap (nextOf q st) w
+  state-next n st x xs h w = ap (next q) h ∙ ap (nextAmong q st) w
 
   -- what holds of the first state, and of the next wherever it holds of a state, holds of all
   pub along : (P : ℕ → State → Type 0) → P 0 begun
@@ -75,7 +75,7 @@ module _ (q : Problem) where
     where
       waits : ((old : State) → stateAt q n ≡ some old → P n old) → (old : State) → stateAt q n ≡ some old
           → (xs : List Subproblem) → old .waiting ≡ xs → P (suc n) st
-      waits below old k [] w = absurd (Option·none-ne-some st (sym (ap (next q) k ∙ ap (nextOf q old) w) ∙ h))
+      waits below old k [] w = absurd (Option·none-ne-some st (sym (ap (next q) k ∙ ap (nextAmong q old) w) ∙ h))
       waits below old k (x ∷ xs) w =
           subst (P (suc n)) (Option·some-injective (openNext q old x xs) st (sym (state-next n old x xs k w) ∙ h)) (then n old x xs w (below old k))
 
@@ -94,7 +94,7 @@ module _ (q : Problem) where
   none-after m st h w (suc n) l = go (none-after m st h w n) (eq-or-lt-of-le (omega arith))
     where
       go : (m < n → stateAt q n ≡ none) → (m ≡ n) ⊎ (m < n) → stateAt q (suc n) ≡ none
-      go below (inl e) = ap (λ (k : ℕ). next q (stateAt q k)) (sym e) ∙ ap (next q) h ∙ ap (nextOf q st) w
+      go below (inl e) = ap (λ (k : ℕ). next q (stateAt q k)) (sym e) ∙ ap (next q) h ∙ ap (nextAmong q st) w
       go below (inr k) = ap (next q) (below k)
 
   -- so every state of the sequence is that one or comes before it

@@ -3,7 +3,7 @@
 --
 -- The demands:
 --   RefusedClaim        DEMAND 1: the answer is refusal n exactly when n is the number of the first broken line
---   LimitsClaim         DEMAND 1: the published limits (InLimits, in positive words) hold exactly when nothing is refused. A budget is a number of
+--   InLimitsClaim       DEMAND 1: the published limits (InLimits, in positive words) hold exactly when nothing is refused. A budget is a number of
 --                       the interface, 64 bits wide, so its upper bound is no test
 --   EndsClaim           DEMAND 1: then the request comes to a route, to none or to spent (Answered), by a run that has ended
 --   UnchangedClaim      DEMAND 1: on a refusal, and on none and spent too, every byte of the out buffer is as it was
@@ -80,8 +80,8 @@ pub record InLimits (k : Request) : Type 0 where
   pub budget : 1 ≤ k .query .budget
   pub room : 3072 ≤ k .room
 
-abbrev pub LimitsClaim : Type 0
-LimitsClaim = (k : Request) → InLimits k ↔ (searchRefusal k ≡ 0)
+abbrev pub InLimitsClaim : Type 0
+InLimitsClaim = (k : Request) → InLimits k ↔ (searchRefusal k ≡ 0)
 
 -- a route, none, or spent
 abbrev pub Answered : Outcome → Type 0
@@ -247,7 +247,7 @@ ValidClaim = (b : List ℕ) → Accepted b → (v w : Search) → length (v .wai
 -- all of them
 pub record Claims : Type 0 where
   pub refused : RefusedClaim
-  pub limits : LimitsClaim
+  pub limits : InLimitsClaim
   pub ends : EndsClaim
   pub unchanged : UnchangedClaim
   pub accepted : AcceptedClaim

@@ -108,13 +108,13 @@ openNext q st x xs = openTaken q st (takeAt (q .choose st) x xs)
 
 -- ---- without a budget
 
-abbrev pub nextOf : Problem → State → List Subproblem → Option State
-nextOf q st [] = none
-nextOf q st (x ∷ xs) = some (openNext q st x xs)
+abbrev pub nextAmong : Problem → State → List Subproblem → Option State
+nextAmong q st [] = none
+nextAmong q st (x ∷ xs) = some (openNext q st x xs)
 
 abbrev pub next : Problem → Option State → Option State
 next q none = none
-next q (some st) = nextOf q st (st .waiting)
+next q (some st) = nextAmong q st (st .waiting)
 
 abbrev pub stateAt : Problem → ℕ → Option State
 stateAt q zero = some begun
