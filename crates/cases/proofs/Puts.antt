@@ -1,7 +1,7 @@
 -- What writing fields and numbers comes to, by the tests that the code makes.
 --
 --   field-put, no-record, no-field     `putField` where record and field are there, and where one is not
---   record-put                         six fields written one after the other are a record written
+--   record-put, no-room                `putRecord` where there is room for the record, and where there is none
 --   number-put, wide-index, wide-value `putNumber` where both numbers have 16 bits, and where one has more
 --   next-field, next-index, no-number  what `changedBy` makes of the numbers from a place on: the next one is for a field, is an index, is not there
 --
@@ -9,11 +9,12 @@
 use mathlib.Core.Path.{_≡_, _∙_, ap, sym}
 use mathlib.Core.Bool.{Bool, true, false, _&&_}
 use mathlib.Core.List.{List, _∷_}
-use Prim.Native.Nat.{ℕ, suc, _+_, _*_, _/_, _%_, _≤_, _<_}
+use Prim.Native.Nat.{ℕ, suc, _+_, _*_, _≤_, _<_}
 use native.Mathlib.Numerals.{add-one}
 use lib.Dec.{ltb}
-use lib.ListN.{getD, drop, set}
+use lib.ListN.{getD, drop}
 use borrow.Author.Tests.{lt-ltb, le-ltb}
+use Rattle.plan.specs.Records.{fieldBytes, recordOf, placed}
 use Rattle.cases.specs.Records.{putBy, putField, putRecord}
 use Rattle.cases.specs.declared.lines.Number.{Number}
 use Rattle.cases.specs.Lines.{numberAt, numbersIn, putNumber, changedBy}
@@ -23,34 +24,33 @@ use Rattle.cases.proofs.Scan.{numbers-found, numbers-none}
 
 module _ (b : List ℕ) (r f v : ℕ) where
   -- what is written is decided by the test of record and field
-  by-test : (t : Bool) → (ltb r 2050 && ltb f 6) ≡ t → putBy t b (12 * r + 2 * f) v ≡ putField b r f v
+  field-by : (t : Bool) → (ltb r 2050 && ltb f 6) ≡ t → putBy t b (12 * r + 2 * f) (fieldBytes v) ≡ putField b r f v
   unfolding putField
-  by-test t h = ap (λ (s : Bool). putBy s b (12 * r + 2 * f) v) (sym h)
+  field-by t h = ap (λ (s : Bool). putBy s b (12 * r + 2 * f) (fieldBytes v)) (sym h)
 
-  pub field-put : r < 2050 → f < 6 → set (set b (12 * r + 2 * f) (v / 256)) (12 * r + 2 * f + 1) (v % 256) ≡ putField b r f v
-  field-put h k = by-test true (ap (λ (s : Bool). s && ltb f 6) (lt-ltb r 2050 h) ∙ lt-ltb f 6 k)
+  pub field-put : r < 2050 → f < 6 → placed b (12 * r + 2 * f) (fieldBytes v) ≡ putField b r f v
+  field-put h k = field-by true (ap (λ (s : Bool). s && ltb f 6) (lt-ltb r 2050 h) ∙ lt-ltb f 6 k)
 
   pub no-record : 2050 ≤ r → b ≡ putField b r f v
-  no-record h = by-test false (ap (λ (s : Bool). s && ltb f 6) (le-ltb r 2050 h))
+  no-record h = field-by false (ap (λ (s : Bool). s && ltb f 6) (le-ltb r 2050 h))
 
   pub no-field : r < 2050 → 6 ≤ f → b ≡ putField b r f v
-  no-field h k = by-test false (ap (λ (s : Bool). s && ltb f 6) (lt-ltb r 2050 h) ∙ le-ltb f 6 k)
+  no-field h k = field-by false (ap (λ (s : Bool). s && ltb f 6) (lt-ltb r 2050 h) ∙ le-ltb f 6 k)
 
 -- ---- a record
 
-pub record-put : (b : List ℕ) (r : ℕ) (fs b₁ b₂ b₃ b₄ b₅ b₆ : List ℕ)
-    → b₁ ≡ putField b r 0 (getD fs 0 0)
-    → b₂ ≡ putField b₁ r 1 (getD fs 1 0)
-    → b₃ ≡ putField b₂ r 2 (getD fs 2 0)
-    → b₄ ≡ putField b₃ r 3 (getD fs 3 0)
-    → b₅ ≡ putField b₄ r 4 (getD fs 4 0)
-    → b₆ ≡ putField b₅ r 5 (getD fs 5 0)
-    → b₆ ≡ putRecord b r fs
-unfolding putRecord
-record-put b r fs b₁ b₂ b₃ b₄ b₅ b₆ e₁ e₂ e₃ e₄ e₅ e₆ = e₆ ∙ ap (put 5) (e₅ ∙ ap (put 4) (e₄ ∙ ap (put 3) (e₃ ∙ ap (put 2) (e₂ ∙ ap (put 1) e₁))))
-  where
-    put : ℕ → List ℕ → List ℕ
-    put f x = putField x r f (getD fs f 0)
+module _ (b : List ℕ) (r : ℕ) (fs : List ℕ) where
+  -- the bytes of the record
+  abbrev bytes : List ℕ
+  bytes = recordOf (getD fs 0 0) (getD fs 1 0) (getD fs 2 0) (getD fs 3 0) (getD fs 4 0) (getD fs 5 0)
+
+  pub record-put : r < 2050 → placed b (12 * r) bytes ≡ putRecord b r fs
+  unfolding putRecord
+  record-put h = ap (λ (s : Bool). putBy s b (12 * r) bytes) (sym (lt-ltb r 2050 h))
+
+  pub no-room : 2050 ≤ r → b ≡ putRecord b r fs
+  unfolding putRecord
+  no-room h = ap (λ (s : Bool). putBy s b (12 * r) bytes) (sym (le-ltb r 2050 h))
 
 -- ---- a number for a field
 

@@ -1,7 +1,8 @@
--- Laws, each file after those that it rests on. The layers above go by Reading, Naming, Places, Arcs and Numbers; the claims are proved in Claims.
+-- Laws, each file after those that it rests on. The layers above go by Reading, Naming, Places, Arcs, Numbers and Writing; the claims are proved in Claims.
 pub mod Lists
 pub mod Counts
 pub mod Rising
+pub mod Writing
 pub mod Links
 pub mod Forms
 pub mod Literals

@@ -3,6 +3,7 @@
 --   field b r f     field f of record r of the bytes b: 16 bits, high byte first
 --   kind b r        field 0
 --   recordOf f0 ..  the twelve bytes of a record, out of its six fields; fieldBytes: the two of a field
+--   placed l i vs   the bytes l with vs written over them from place i on: how a field, a record or several of them are written
 --   junctions b, modes b, records b
 --                   J, M and N of record 0
 --   IsKind b k i    i is the index of a record of kind k
@@ -21,8 +22,8 @@
 use mathlib.Core.Path.{_≡_}
 use Prim.Native.Nat.{ℕ, zero, suc, _+_, _*_, _/_, _%_, _<_}
 use mathlib.Core.Bool.{Bool, true, false}
-use mathlib.Core.List.{List, [], _∷_}
-use lib.ListN.{getD}
+use mathlib.Core.List.{List, [], _∷_, _++_}
+use lib.ListN.{getD, length, take, drop}
 use lib.Dec.{eqb}
 use Rattle.plan.specs.Lists.{all, joined, upto, within}
 
@@ -37,6 +38,9 @@ fieldBytes n = n / 256 ∷ n % 256 ∷ []
 
 abbrev pub recordOf : ℕ → ℕ → ℕ → ℕ → ℕ → ℕ → List ℕ
 recordOf f0 f1 f2 f3 f4 f5 = joined fieldBytes (f0 ∷ f1 ∷ f2 ∷ f3 ∷ f4 ∷ f5 ∷ [])
+
+abbrev pub placed : List ℕ → ℕ → List ℕ → List ℕ
+placed l i vs = take i l ++ vs ++ drop (i + length vs) l
 
 abbrev pub junctions : List ℕ → ℕ
 junctions b = field b 0 1

@@ -1,7 +1,7 @@
 // Depot plans: any bytes are refused with the paper's number or are an accepted plan, whose parts can then be read.
 //
-//   refusal   the lines of the refusal table
-//   record   fields of 12-byte records
+//   refusal  the lines of the refusal table
+//   record   fields of 12-byte records, read and written
 //   table    what each kind of record holds in its unused and ranged fields
 //   check    the check of a plan, out of lines 1 to 7 of the refusal table:
 //   form     lines 1 to 3, a record at a time

@@ -1,8 +1,8 @@
-// Fields of 12-byte records (paper 01, "Plan bytes").
+// Fields of 12-byte records (paper 01, "Plan bytes"): how they are read, and how they are written.
 ghost use mathlib.Core.Path.{_≡_};
 ghost use Prim.Native.Nat.{_+_, _*_, _<_, _≤_};
 ghost use lib.ListN.{length};
-ghost use Rattle.plan.specs.Records.{field, records};
+ghost use Rattle.plan.specs.Records.{field, records, fieldBytes, recordOf, placed};
 
 // The kinds of records, field 0.
 pub const JUNCTION: u16 = 1;
@@ -52,4 +52,27 @@ pub fn records(p: &[u8]) -> usize
     ensures { λ v. ⌜ (v ≡ records (now (p .entry))) × (v < 65536) ⌝ }
 {
     index(p, 0, 4)
+}
+
+// Writes a field at place `at`, high byte first.
+pub fn put_field(out: &mut [u8], at: usize, f: u16)
+    requires { ⌜ at + 2 ≤ length (now out) ⌝ }
+    ensures { λ _. ⌜ now (out .exit) ≡ placed (now (out .entry)) at (fieldBytes f) ⌝ }
+{
+    out[at] = (f / 256) as u8;
+    out[at + 1] = (f % 256) as u8;
+}
+
+// Writes record i, all six fields.
+pub fn put_record(out: &mut [u8], i: usize, f0: u16, f1: u16, f2: u16, f3: u16, f4: u16, f5: u16)
+    requires { ⌜ 12 * i + 12 ≤ length (now out) ⌝ }
+    ensures { λ _. ⌜ now (out .exit) ≡ placed (now (out .entry)) (12 * i) (recordOf f0 f1 f2 f3 f4 f5) ⌝ }
+{
+    let at = 12 * i;
+    put_field(out, at, f0);
+    put_field(out, at + 2, f1);
+    put_field(out, at + 4, f2);
+    put_field(out, at + 6, f3);
+    put_field(out, at + 8, f4);
+    put_field(out, at + 10, f5);
 }

@@ -1,7 +1,5 @@
--- What is stored, piece by piece, in the buffer of a sheet.
+-- What is stored, piece by piece, in the buffer of a sheet. How a record is written there is said in crate plan (proofs/Writing.antt).
 --
---   stored-field        the two bytes of a field, stored one by one, are placed
---   behind              what is placed behind what was placed is placed with it
 --   no-steps            the steps of no belts are placed already
 --   length-stepped      the steps of the first belts placed, the buffer is as long as before
 --   stepped             one record more behind them, and the steps of one belt more are placed
@@ -14,43 +12,14 @@ use Prim.Native.Nat.{ℕ, suc, _+_, _*_, _/_, _%_, _≤_, _<_}
 use mathlib.Core.List.{List, [], _∷_, _++_}
 use native.Mathlib.Omega.{arith}
 use native.Mathlib.Nat.{add-suc, suc-add, add-zero}
-use native.Mathlib.Numerals.{add-one}
-use lib.ListN.{length, getD, drop, set, length-append}
-use lib.Seq.{sets, sets-eq, length-sets}
+use lib.ListN.{length, getD, drop}
+use lib.Seq.{sets-eq}
 use Rattle.plan.specs.declared.read.BeltId.{BeltId}
-use Rattle.plan.specs.Records.{fieldBytes, recordOf}
+use Rattle.plan.specs.Records.{recordOf, placed}
+use Rattle.plan.proofs.Writing.{length-placed, behind}
 use Rattle.route.specs.Sheets.{nextOf, headOf, stepsFrom, sheetOf}
-use Rattle.route.specs.Inner.{placed}
 use Rattle.route.proofs.Held.{firstIds, length-first, first-more}
 use Rattle.route.proofs.Readings.{length-steps, length-sheet}
-
--- ---- placing
-
-pub stored-field : (f : ℕ) (l : List ℕ) (at : ℕ) → at + 2 ≤ length l → set (set l at (f / 256)) (at + 1) (f % 256) ≡ placed l at (fieldBytes f)
-stored-field f l at h = ap (λ (j : ℕ). set (set l at (f / 256)) j (f % 256)) (add-one at) ∙ sets-eq (fieldBytes f) l at h
-
-length-placed : (vs l : List ℕ) (i : ℕ) → i + length vs ≤ length l → length (placed l i vs) ≡ length l
-length-placed vs l i h = ap length (sym (sets-eq vs l i h)) ∙ length-sets l i vs
-
-sets-append : (vs ws l : List ℕ) (i : ℕ) → sets (sets l i vs) (i + length vs) ws ≡ sets l i (vs ++ ws)
-sets-append [] ws l i = ap (λ (j : ℕ). sets l j ws) (add-zero i)
-sets-append (a ∷ vs) ws l i =
-    ap (λ (j : ℕ). sets (sets (set l i a) (suc i) vs) j ws) (add-suc i (length vs) ∙ sym (suc-add i (length vs)))
-    ∙ sets-append vs ws (set l i a) (suc i)
-
-placed-placed : (vs ws l : List ℕ) (i j : ℕ) → j ≡ i + length vs → j + length ws ≤ length l → placed (placed l i vs) j ws ≡ placed l i (vs ++ ws)
-placed-placed vs ws l i j e h =
-    let n = length-append vs ws in
-    let q = length-sets l i vs in
-    ap (λ (m : List ℕ). placed m j ws) (sym (sets-eq vs l i (omega arith)))
-    ∙ sym (sets-eq ws (sets l i vs) j (omega arith))
-    ∙ ap (λ (m : ℕ). sets (sets l i vs) m ws) e
-    ∙ sets-append vs ws l i
-    ∙ sets-eq (vs ++ ws) l i (omega arith)
-
-pub behind : (l : List ℕ) (at : ℕ) (vs ws mid out : List ℕ) (j : ℕ) → mid ≡ placed l at vs → out ≡ placed mid j ws
-    → j ≡ at + length vs → j + length ws ≤ length l → out ≡ placed l at (vs ++ ws)
-behind l at vs ws mid out j p q e h = q ∙ ap (λ (m : List ℕ). placed m j ws) p ∙ placed-placed vs ws l at j e h
 
 -- ---- steps
 

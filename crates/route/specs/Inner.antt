@@ -1,6 +1,5 @@
 -- What only the contracts of private functions cite; nothing that a reader has to believe.
 --
---   placed l i vs   l with vs from place i on
 --   Codable places l
 --                   literal l has a code: a named belt that can be looked up in the array of places, or a mode up to 10
 --   isTrue on c     the literal of code c holds, where the mask `on` has the variables that are on
@@ -43,9 +42,9 @@ use mathlib.Core.Path.{_≡_}
 use Prim.Native.Nat.{ℕ, _+_, _/_, _%_, _^_, _≤_, _<_}
 use mathlib.Core.Bool.{Bool, true, false, not, _&&_, _||_}
 use mathlib.Core.Option.{Option, none, some}
-use mathlib.Core.List.{List, [], _∷_, _++_, map}
+use mathlib.Core.List.{List, [], _∷_, map}
 use lib.Bits.{bitOr}
-use lib.ListN.{length, getD, set, take, drop}
+use lib.ListN.{length, getD, set}
 use lib.Dec.{eqb, leb, ltb}
 use Rattle.plan.specs.declared.read.BeltId.{BeltId}
 use Rattle.plan.specs.Lists.{all, keep, mem}
@@ -62,9 +61,6 @@ use Rattle.route.specs.Routes.{connects, cost, costLimit, first, beltsBy
 use Rattle.route.specs.Permission.{passes, termsOf, works}
 use Rattle.route.specs.Subproblems.{Subproblem, relaxed}
 use Rattle.route.specs.Values.{idsOf, subproblemIn, namedPlaces}
-
-abbrev pub placed : List ℕ → ℕ → List ℕ → List ℕ
-placed l i vs = take i l ++ vs ++ drop (i + length vs) l
 
 abbrev pub lowerIds : List ℕ → List ℕ → Bool
 lowerIds [] [] = false

@@ -7,11 +7,10 @@ ghost use mathlib.Core.Bool.{true};
 ghost use mathlib.Core.List.{_++_};
 ghost use Prim.Native.Nat.{_+_, _*_, _≤_, _<_};
 ghost use lib.ListN.{length, drop};
-ghost use Rattle.plan.specs.Records.{fieldBytes, recordOf};
+ghost use Rattle.plan.specs.Records.{placed};
 ghost use Rattle.route.specs.Routes.{costLimit};
 ghost use Rattle.route.specs.Sheets.{nextOf, headOf, stepsFrom, steps, headFits, stepFits, inForm, beltsOn, costOn};
 ghost use Rattle.route.specs.Values.{idsOf, packed, sheetIn, bytesOf};
-ghost use Rattle.route.specs.Inner.{placed};
 
 // The kinds of records, field 0.
 pub const SHEET: u16 = 8;
@@ -143,29 +142,6 @@ pub fn read(h: &[u8]) -> Sheet
     }
 }
 
-// One field, high byte first.
-fn put_field(out: &mut [u8], at: usize, f: u16)
-    requires { ⌜ at + 2 ≤ length (now out) ⌝ }
-    ensures { λ _. ⌜ now (out .exit) ≡ placed (now (out .entry)) at (fieldBytes f) ⌝ }
-{
-    out[at] = (f / 256) as u8;
-    out[at + 1] = (f % 256) as u8;
-}
-
-// The six fields of record i.
-fn put_record(out: &mut [u8], i: usize, f0: u16, f1: u16, f2: u16, f3: u16, f4: u16, f5: u16)
-    requires { ⌜ 12 * i + 12 ≤ length (now out) ⌝ }
-    ensures { λ _. ⌜ now (out .exit) ≡ placed (now (out .entry)) (12 * i) (recordOf f0 f1 f2 f3 f4 f5) ⌝ }
-{
-    let at = 12 * i;
-    put_field(out, at, f0);
-    put_field(out, at + 2, f1);
-    put_field(out, at + 4, f2);
-    put_field(out, at + 6, f3);
-    put_field(out, at + 8, f4);
-    put_field(out, at + 10, f5);
-}
-
 // Record 0 of a sheet with so many steps.
 fn put_head(out: &mut [u8], count: usize, cost: u64, setting: u16)
     requires { ⌜ (count ≤ 255) × (cost < costLimit) × (12 ≤ length (now out)) ⌝ }
@@ -174,7 +150,7 @@ fn put_head(out: &mut [u8], count: usize, cost: u64, setting: u16)
     let high = (cost / 4294967296) as u16;
     let middle = (cost / 65536 % 65536) as u16;
     let low = (cost % 65536) as u16;
-    put_record(out, 0, SHEET, next_of(count, 0), high, middle, low, setting);
+    record::put_record(out, 0, SHEET, next_of(count, 0), high, middle, low, setting);
 }
 
 // A step for each belt of the route, from record 1 on.
@@ -187,7 +163,7 @@ fn put_steps(out: &mut [u8], route: Route)
     let mut k = 0;
     while k < count {
         let belt = belts[k];
-        put_record(out, k + 1, STEP, next_of(count, k + 1), belt.0, 0, 0, 0);
+        record::put_record(out, k + 1, STEP, next_of(count, k + 1), belt.0, 0, 0, 0);
         k += 1;
     }
 }

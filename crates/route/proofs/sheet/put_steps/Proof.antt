@@ -5,7 +5,7 @@ use native.Mathlib.Omega.{arith}
 use lib.ListN.{length}
 use Rattle.plan.specs.Plan.{beltId}
 use Rattle.route.specs.Sheets.{stepsFrom}
-use Rattle.route.specs.Inner.{placed}
+use Rattle.plan.specs.Records.{placed}
 use Rattle.route.proofs.Held.{places, firstIds}
 use Rattle.route.proofs.Stores.{no-steps, length-stepped, stepped}
 use Rattle.route.proofs.sheet.put_steps.Statement.{statement}

@@ -1,13 +1,13 @@
--- `route::sheet::put_record` meets its contract: each field is placed behind those before it. Assumes nothing.
+-- `plan::record::put_record` meets its contract: each field is placed behind those before it. Assumes nothing.
 use mathlib.Core.Path.{refl}
 use Prim.Native.Nat.{_+_, _*_}
 use mathlib.Core.List.{_++_}
 use native.Mathlib.Omega.{arith}
 use Rattle.plan.specs.Records.{fieldBytes}
-use Rattle.route.proofs.Stores.{behind}
+use Rattle.plan.proofs.Writing.{behind}
 use borrow.Author.Needs.{needs}
-use Rattle.route.proofs.sheet.put_record.Statement.{statement}
-use Rattle.route.proofs.sheet.put_record.Tie as tie
+use Rattle.plan.proofs.record.put_record.Statement.{statement}
+use Rattle.plan.proofs.record.put_record.Tie as tie
 
 mul-at : tie.Need-mul-at
 mul-at c = search needs

@@ -1,10 +1,10 @@
--- `route::sheet::put_field` meets its contract. Assumes nothing.
+-- `plan::record::put_field` meets its contract. Assumes nothing.
 use native.Mathlib.Omega.{arith}
 use lib.ListN.{length-set}
-use Rattle.route.proofs.Stores.{stored-field}
+use Rattle.plan.proofs.Writing.{stored-field}
 use borrow.Author.Needs.{needs}
-use Rattle.route.proofs.sheet.put_field.Statement.{statement}
-use Rattle.route.proofs.sheet.put_field.Tie as tie
+use Rattle.plan.proofs.record.put_field.Statement.{statement}
+use Rattle.plan.proofs.record.put_field.Tie as tie
 
 cast-out : tie.Need-cast-out
 cast-out c = search needs
