@@ -5,17 +5,17 @@
 --   accepted-room, accepted-there                what the readers need of an accepted plan
 --
 -- Assumes nothing.
-use mathlib.Core.Path.{_≡_, refl}
-use mathlib.Core.Bool.{true, false}
-use Prim.Native.Nat.{ℕ, _+_, _*_, _≤_, _<_}
-use mathlib.Core.List.{List, List·Memᴰ·head, List·Memᴰ·tail}
-use lib.ListN.{length}
+use mathlib.Core.Path.{_≡_, refl, _∙_}
+use mathlib.Core.Bool.{Bool, true, false}
+use Prim.Native.Nat.{ℕ, suc, _+_, _*_, _≤_, _<_}
+use mathlib.Core.List.{List, _∷_, List·Memᴰ·head, List·Memᴰ·tail}
+use lib.ListN.{length, drop}
 use Rattle.plan.specs.Records.{junctions, records}
 use Rattle.plan.specs.Refusals.{broken1, broken2, broken3, broken4, broken5, broken6, broken7, planLines, firstBroken, refusal}
 use Rattle.plan.specs.Inner.{Passed2, Passed4, Passed6}
 use Rattle.plan.specs.Claims.{Unbroken}
 use Rattle.plan.specs.Reading.{Accepted}
-use Rattle.plan.proofs.First.{passed}
+use Rattle.plan.proofs.First.{on-broken, on-unbroken, passed}
 use Rattle.plan.proofs.Forms.{there, header}
 
 pub unbroken : (b : List ℕ) → refusal b ≡ 0 → Unbroken planLines b
@@ -37,40 +37,55 @@ accepted-passed b e =
       u _ (List·Memᴰ·tail (List·Memᴰ·tail (List·Memᴰ·tail (List·Memᴰ·tail (List·Memᴰ·tail (List·Memᴰ·tail (List·Memᴰ·head refl))))))),
     )
 
-pub passed-accepted : (b : List ℕ) → Passed6 b → broken7 b ≡ false → refusal b ≡ 0
-unfolding refusal
-passed-accepted b h k =
-    rw (h .0 .0 .0, firstBroken) (rw (h .0 .0 .1, firstBroken) (rw (h .0 .1, firstBroken) (rw (h .0 .2, firstBroken) (rw (h .1, firstBroken) (rw (h .2, firstBroken) (rw (k, firstBroken)))))))
-
 -- ---- the number, where a line is the first to be broken
 
-pub refused-1 : (b : List ℕ) → broken1 b ≡ true → refusal b ≡ 1
-unfolding refusal
-refused-1 b k = rw (k, firstBroken)
+module _ (b : List ℕ) where
+  -- the number of the first broken line behind the first n
+  abbrev from : ℕ → ℕ
+  from n = firstBroken (drop n planLines) b
 
-pub refused-2 : (b : List ℕ) → broken1 b ≡ false → broken2 b ≡ true → refusal b ≡ 2
-unfolding refusal
-refused-2 b h k = rw (h, firstBroken) (rw (k, firstBroken))
+  -- the next line, of the number n + 1, is broken or not
+  hit : (n : ℕ) (t : List ℕ → Bool) → t b ≡ true → firstBroken (record { number = suc n; broken = t } ∷ drop (suc n) planLines) b ≡ suc n
+  hit n t = on-broken (record { number = suc n; broken = t }) (drop (suc n) planLines) b
 
-pub refused-3 : (b : List ℕ) → Passed2 b → broken3 b ≡ true → refusal b ≡ 3
-unfolding refusal
-refused-3 b h k = rw (h .0, firstBroken) (rw (h .1, firstBroken) (rw (k, firstBroken)))
+  over : (n : ℕ) (t : List ℕ → Bool) → t b ≡ false → firstBroken (record { number = suc n; broken = t } ∷ drop (suc n) planLines) b ≡ from (suc n)
+  over n t = on-unbroken (record { number = suc n; broken = t }) (drop (suc n) planLines) b
 
-pub refused-4 : (b : List ℕ) → Passed2 b → broken3 b ≡ false → broken4 b ≡ true → refusal b ≡ 4
-unfolding refusal
-refused-4 b h h3 k = rw (h .0, firstBroken) (rw (h .1, firstBroken) (rw (h3, firstBroken) (rw (k, firstBroken))))
+  past-2 : Passed2 b → refusal b ≡ from 2
+  unfolding refusal
+  past-2 h = over 0 broken1 (h .0) ∙ over 1 broken2 (h .1)
 
-pub refused-5 : (b : List ℕ) → Passed4 b → broken5 b ≡ true → refusal b ≡ 5
-unfolding refusal
-refused-5 b h k = rw (h .0 .0, firstBroken) (rw (h .0 .1, firstBroken) (rw (h .1, firstBroken) (rw (h .2, firstBroken) (rw (k, firstBroken)))))
+  past-4 : Passed4 b → refusal b ≡ from 4
+  past-4 h = past-2 (h .0) ∙ over 2 broken3 (h .1) ∙ over 3 broken4 (h .2)
 
-pub refused-6 : (b : List ℕ) → Passed4 b → broken5 b ≡ false → broken6 b ≡ true → refusal b ≡ 6
-unfolding refusal
-refused-6 b h h5 k = rw (h .0 .0, firstBroken) (rw (h .0 .1, firstBroken) (rw (h .1, firstBroken) (rw (h .2, firstBroken) (rw (h5, firstBroken) (rw (k, firstBroken))))))
+  past-6 : Passed6 b → refusal b ≡ from 6
+  past-6 h = past-4 (h .0) ∙ over 4 broken5 (h .1) ∙ over 5 broken6 (h .2)
 
-pub refused-7 : (b : List ℕ) → Passed6 b → broken7 b ≡ true → refusal b ≡ 7
-unfolding refusal
-refused-7 b h k = rw (h .0 .0 .0, firstBroken) (rw (h .0 .0 .1, firstBroken) (rw (h .0 .1, firstBroken) (rw (h .0 .2, firstBroken) (rw (h .1, firstBroken) (rw (h .2, firstBroken) (rw (k, firstBroken)))))))
+  pub refused-1 : broken1 b ≡ true → refusal b ≡ 1
+  unfolding refusal
+  refused-1 k = hit 0 broken1 k
+
+  pub refused-2 : broken1 b ≡ false → broken2 b ≡ true → refusal b ≡ 2
+  unfolding refusal
+  refused-2 h k = over 0 broken1 h ∙ hit 1 broken2 k
+
+  pub refused-3 : Passed2 b → broken3 b ≡ true → refusal b ≡ 3
+  refused-3 h k = past-2 h ∙ hit 2 broken3 k
+
+  pub refused-4 : Passed2 b → broken3 b ≡ false → broken4 b ≡ true → refusal b ≡ 4
+  refused-4 h h3 k = past-2 h ∙ over 2 broken3 h3 ∙ hit 3 broken4 k
+
+  pub refused-5 : Passed4 b → broken5 b ≡ true → refusal b ≡ 5
+  refused-5 h k = past-4 h ∙ hit 4 broken5 k
+
+  pub refused-6 : Passed4 b → broken5 b ≡ false → broken6 b ≡ true → refusal b ≡ 6
+  refused-6 h h5 k = past-4 h ∙ over 4 broken5 h5 ∙ hit 5 broken6 k
+
+  pub refused-7 : Passed6 b → broken7 b ≡ true → refusal b ≡ 7
+  refused-7 h k = past-6 h ∙ hit 6 broken7 k
+
+  pub passed-accepted : Passed6 b → broken7 b ≡ false → refusal b ≡ 0
+  passed-accepted h k = past-6 h ∙ over 6 broken7 k
 
 -- ---- what readers need
 

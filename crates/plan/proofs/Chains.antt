@@ -1,8 +1,7 @@
 -- Chains of a plan whose links are right (`Linked b`): one law serves belts, rules and literals wherever it can.
 --
---   Item k               k is a kind of record that stands on chains: 2, 3 or 4
 --   Start b r f k        field f of record r starts a chain of records of kind k
---   Holds b r f k        it starts one or goes on with one
+--   Holds b r f k        it starts one or goes on with one; holder: a record that holds a link
 --   above                items stand above the junctions
 --   leads                a chain index is zero or leads to a larger index, of the right kind
 --   chain-end, chain-step
@@ -21,24 +20,19 @@ use mathlib.Core.Path.{_≡_, refl, sym, _∙_, ap, subst}
 use mathlib.Core.Logic.{_⊎_, inl, inr}
 use mathlib.Core.Bool.{Bool, true, false}
 use Prim.Native.Nat.{ℕ, zero, suc, _≤_, _<_}
-use mathlib.Core.List.{List, [], _∷_, map, List·Memᴰ, List·Memᴰ·head, List·Memᴰ·tail, List·Memᴰ·not-nil, List·Memᴰ·cases-cons, List·Memᴰ·append-cases, Memᴰ·append-left, Memᴰ·append-right, Memᴰ·cast}
+use mathlib.Core.List.{List, [], _∷_, map, List·Memᴰ, List·Memᴰ·head, List·Memᴰ·tail, List·Memᴰ·not-nil, List·Memᴰ·cases-cons, Memᴰ·cast}
 use native.Mathlib.Omega.{arith}
 use lib.Dec.{eqb, leb}
 use borrow.Author.Tests.{eqb-true, eq-eqb, leb-true, leb-false}
 use Rattle.plan.specs.Lists.{keep, mem, upto}
-use Rattle.plan.specs.Records.{field, kind, junctions, records, IsKind, Link, linkTo, linksAt, links, chainOf, chain}
+use Rattle.plan.specs.Records.{field, kind, junctions, records, IsKind, rowOf, Link, linksAt, links, chainOf, chain}
 use Rattle.plan.specs.Plan.{Belt, firstIn, leaves, beltAt, beltRecords, planOf, leaving}
-use Rattle.plan.proofs.Lists.{test, in-keep, keep-in, in-map, map-in, in-upto, upto-in, in-mem, mem-in, count-some, count-one, never, keep-map}
-use Rattle.plan.proofs.Links.{linksAt-7, linksAt-1, linksAt-2, linksAt-3, linksAt-4, link, in-linkTo, linkTo-in, in-links, links-in, Linked}
+use Rattle.plan.proofs.Lists.{test, each, in-keep, keep-in, in-map, map-in, in-upto, upto-in, in-mem, mem-in, count-some, count-one, never, keep-map}
+use Rattle.plan.proofs.Forms.{Item, belts, rules, literals, item-range}
+use Rattle.plan.proofs.Links.{targets, link, in-linksAt, linksAt-in, in-links, links-in, Sorted, Linked}
 use Rattle.plan.proofs.Rising.{Rises, upto-rises, keep-rises, rises-equal, From, on, from, from-in, from-rises, from-head, from-next, from-cases, from-once}
 
 -- ---- who holds a chain index
-
--- the kinds of records that stand on chains
-pub data Item : ℕ → Type 0 where
-  belts : Item 2
-  rules : Item 3
-  literals : Item 4
 
 -- field f of record r starts a chain of records of kind k
 pub data Start (b : List ℕ) : ℕ → ℕ → ℕ → Type 0 where
@@ -51,19 +45,13 @@ pub data Holds (b : List ℕ) : ℕ → ℕ → ℕ → Type 0 where
   starts : {r f k : ℕ} → Start b r f k → Holds b r f k
   goes-on : {r k : ℕ} → Item k → IsKind b k r → Holds b r 1 k
 
--- items are of the kinds 2 to 4
-item-range : {k : ℕ} → Item k → (2 ≤ k) × (k ≤ 4)
-item-range belts = (omega arith, omega arith)
-item-range rules = (omega arith, omega arith)
-item-range literals = (omega arith, omega arith)
-
 -- what a chain is started with, and what it goes on with, are items
 start-item : {b : List ℕ} {r f k : ℕ} → Start b r f k → Item k
 start-item (of-junction l h) = belts
 start-item of-plan = rules
 start-item (of-rule o) = literals
 
-hold-item : {b : List ℕ} {r f k : ℕ} → Holds b r f k → Item k
+pub hold-item : {b : List ℕ} {r f k : ℕ} → Holds b r f k → Item k
 hold-item (starts s) = start-item s
 hold-item (goes-on t o) = t
 
@@ -72,70 +60,82 @@ pub above : {b : List ℕ} {k : ℕ} → Linked b → Item k → (i : ℕ) → I
 above {b} {k} w t i o = go i (test (leb i (junctions b))) (o .1)
   where
     go : (j : ℕ) → (leb j (junctions b) ≡ true) ⊎ (leb j (junctions b) ≡ false) → kind b j ≡ k → junctions b < j
-    go zero c e = absurd (omega (arith, w .top, item-range t .0, item-range t .1))
-    go (suc j) (inl c) e = absurd (omega (arith, w .low (suc j) (omega arith) (leb-true (suc j) (junctions b) c), item-range t .0))
+    go zero c e = absurd (item-range t .1 (sym e ∙ w .sorted .top))
+    go (suc j) (inl c) e = absurd (omega (arith, w .sorted .low (suc j) (omega arith) (leb-true (suc j) (junctions b) c), item-range t .0))
     go (suc j) (inr c) e = leb-false (suc j) (junctions b) c
 
 -- a record that starts a chain is not of the chain's kind
 apart : {b : List ℕ} {r f k : ℕ} → Linked b → Start b r f k → kind b r ≡ k → ⊥
-apart w (of-junction {j} l h) e = omega (arith, w .low j l h)
-apart w of-plan e = omega (arith, w .top)
+apart w (of-junction {j} l h) e = omega (arith, w .sorted .low j l h)
+apart w of-plan e = omega (arith, w .sorted .top)
 apart w (of-rule o) e = omega (arith, o .1)
 
--- what a record holds is among the links of the plan
-held : {b : List ℕ} {r f k : ℕ} → Linked b → Holds b r f k → (field b r f ≡ 0 → ⊥) → List·Memᴰ (link r (field b r f) k) (links b)
-held {b} {r} {f} {k} w h d = go h (in-linkTo r (field b r f) k d)
+-- what a record holds is among the links of the plan: its field is a chain field of its kind
+held : {b : List ℕ} {r f k : ℕ} → Sorted b → Holds b r f k → (field b r f ≡ 0 → ⊥) → List·Memᴰ (link r (field b r f) k) (links b)
+unfolding rowOf
+held {b} {r} {f} {k} w h d = go h d
   where
-    among : (r : ℕ) {l : Link} {ls : List Link} → r < records b → linksAt b r ≡ ls → List·Memᴰ l ls → List·Memᴰ l (links b)
-    among r {l} c e m = in-links b r l c (subst (List·Memᴰ l) (sym e) m)
+    among : (r n f k : ℕ) → IsKind b n r → List·Memᴰ (f, k) (targets b n) → (field b r f ≡ 0 → ⊥) → List·Memᴰ (link r (field b r f) k) (links b)
+    among r n f k o m d = in-links b r (link r (field b r f) k) (o .0) (in-linksAt b r n f k (o .1) m d)
 
-    go : {r f k : ℕ} → Holds b r f k → List·Memᴰ (link r (field b r f) k) (linkTo r (field b r f) k) → List·Memᴰ (link r (field b r f) k) (links b)
-    go (starts (of-junction {j} l h)) m = among j (omega (arith, w .room)) (linksAt-1 b j (w .low j l h)) m
-    go (starts of-plan) m = among 0 (omega (arith, w .room)) (linksAt-7 b 0 (w .top)) m
-    go (starts (of-rule {r} o)) m = among r (o .0) (linksAt-3 b r (o .1)) (Memᴰ·append-right (linkTo r (field b r 1) 3) m)
-    go (goes-on {r} belts o) m = among r (o .0) (linksAt-2 b r (o .1)) m
-    go (goes-on {r} rules o) m = among r (o .0) (linksAt-3 b r (o .1)) (Memᴰ·append-left (linkTo r (field b r 2) 4) m)
-    go (goes-on {r} literals o) m = among r (o .0) (linksAt-4 b r (o .1)) m
+    go : {r f k : ℕ} → Holds b r f k → (field b r f ≡ 0 → ⊥) → List·Memᴰ (link r (field b r f) k) (links b)
+    go (starts (of-junction {j} l h)) = among j 1 1 2 (omega (arith, w .room), w .low j l h) (List·Memᴰ·head refl)
+    go (starts of-plan) = among 0 7 3 3 (omega (arith, w .room), w .top) (List·Memᴰ·head refl)
+    go (starts (of-rule {r} o)) = among r 3 2 4 o (List·Memᴰ·tail (List·Memᴰ·head refl))
+    go (goes-on {r} belts o) = among r 2 1 2 o (List·Memᴰ·head refl)
+    go (goes-on {r} rules o) = among r 3 1 3 o (List·Memᴰ·head refl)
+    go (goes-on {r} literals o) = among r 4 1 4 o (List·Memᴰ·head refl)
 
 -- and it leads to a larger index, of the right kind
 pub leads : {b : List ℕ} {r f k : ℕ} → Linked b → Holds b r f k → (field b r f ≡ 0 → ⊥) → (r < field b r f) × IsKind b k (field b r f)
-leads {b} {r} {f} {k} w h d = let x = w .well (link r (field b r f) k) (held w h d) in (x .0, (x .1, x .2))
+leads {b} {r} {f} {k} w h d = let x = w .well (link r (field b r f) k) (held (w .sorted) h d) in (x .0, (x .1, x .2))
 
--- each link of the plan is held by a record
-holder : {b : List ℕ} → Linked b → (l : Link) → List·Memᴰ l (links b) → (r f k : ℕ) × Holds b r f k × (l ≡ link r (field b r f) k)
+-- each link of the plan is held by a record, in a field that is not 0
+pub record Held (b : List ℕ) (l : Link) : Type 0 where
+  pub at : ℕ
+  pub field-of : ℕ
+  pub want : ℕ
+  pub holds : Holds b at field-of want
+  pub is : l ≡ link at (field b at field-of) want
+  pub some : field b at field-of ≡ 0 → ⊥
+
+pub holder : {b : List ℕ} → Sorted b → (l : Link) → List·Memᴰ l (links b) → Held b l
+unfolding rowOf
 holder {b} w l m = let x = links-in b l m in at (x .0) (x .1) (x .2)
   where
-    Out : Type 0
-    Out = (r f k : ℕ) × Holds b r f k × (l ≡ link r (field b r f) k)
+    -- what the chain fields of record r are
+    By : ℕ → ℕ × ℕ → Type 0
+    By r t = Holds b r (t .0) (t .1)
 
-    by : (r f k : ℕ) → Holds b r f k → List·Memᴰ l (linkTo r (field b r f) k) → Out
-    by r f k h m = (r, f, k, h, linkTo-in r (field b r f) k l m .0)
+    none : (r : ℕ) (t : ℕ × ℕ) → List·Memᴰ t [] → By r t
+    none r t m = absurd (List·Memᴰ·not-nil m)
 
-    of-one : (r : ℕ) → IsKind b 3 r → List·Memᴰ l (linkTo r (field b r 1) 3) ⊎ List·Memᴰ l (linkTo r (field b r 2) 4) → Out
-    of-one r o (inl m) = by r 1 3 (goes-on rules o) m
-    of-one r o (inr m) = by r 2 4 (starts (of-rule o)) m
+    high : (r k : ℕ) → Item k → IsKind b k r → (t : ℕ × ℕ) → List·Memᴰ t (targets b k) → By r t
+    high r _ belts o = each (By r) (goes-on belts o) (none r)
+    high r _ rules o = each (By r) (goes-on rules o) (each (By r) (starts (of-rule o)) (none r))
+    high r _ literals o = each (By r) (goes-on literals o) (none r)
 
-    high : (r : ℕ) → r < records b → List·Memᴰ l (linksAt b r) → (kind b r ≡ 2) ⊎ ((kind b r ≡ 3) ⊎ (kind b r ≡ 4)) → Out
-    high r c m (inl e) = by r 1 2 (goes-on belts (c, e)) (subst (List·Memᴰ l) (linksAt-2 b r e) m)
-    high r c m (inr (inl e)) = of-one r (c, e) (List·Memᴰ·append-cases (linkTo r (field b r 1) 3) (subst (List·Memᴰ l) (linksAt-3 b r e) m))
-    high r c m (inr (inr e)) = by r 1 4 (goes-on literals (c, e)) (subst (List·Memᴰ l) (linksAt-4 b r e) m)
+    by : (r k : ℕ) → kind b r ≡ k → ((t : ℕ × ℕ) → List·Memᴰ t (targets b k) → By r t) → List·Memᴰ l (linksAt b r) → Held b l
+    by r k e f m =
+        let x = linksAt-in b r k l e m in
+        record { at = r; field-of = x .0 .0; want = x .0 .1; holds = f (x .0) (x .1); is = x .2; some = x .3 }
 
-    low : (r : ℕ) → 1 ≤ r → r < records b → List·Memᴰ l (linksAt b r) → (leb r (junctions b) ≡ true) ⊎ (leb r (junctions b) ≡ false) → Out
-    low r p c m (inl t) =
+    above-0 : (r : ℕ) → 1 ≤ r → r < records b → List·Memᴰ l (linksAt b r) → (leb r (junctions b) ≡ true) ⊎ (leb r (junctions b) ≡ false) → Held b l
+    above-0 r p c m (inl t) =
         let h = leb-true r (junctions b) t in
-        by r 1 2 (starts (of-junction p h)) (subst (List·Memᴰ l) (linksAt-1 b r (w .low r p h)) m)
-    low r p c m (inr t) = high r c m (w .high r (leb-false r (junctions b) t) c)
+        by r 1 (w .low r p h) (each (By r) (starts (of-junction p h)) (none r)) m
+    above-0 r p c m (inr t) = by r (kind b r) refl (high r (kind b r) (w .high r (leb-false r (junctions b) t) c) (c, refl)) m
 
-    at : (r : ℕ) → r < records b → List·Memᴰ l (linksAt b r) → Out
-    at zero c m = by 0 3 3 (starts of-plan) (subst (List·Memᴰ l) (linksAt-7 b 0 (w .top)) m)
-    at (suc r) c m = low (suc r) (omega arith) c m (test (leb (suc r) (junctions b)))
+    at : (r : ℕ) → r < records b → List·Memᴰ l (linksAt b r) → Held b l
+    at zero c m = by 0 7 (w .top) (each (By 0) (starts of-plan) (none 0)) m
+    at (suc r) c m = above-0 (suc r) (omega arith) c m (test (leb (suc r) (junctions b)))
 
 -- two holders of one index are one
 one-holder : {b : List ℕ} {r f s g k : ℕ} → Linked b → Holds b r f k → Holds b s g k → (e : ℕ) → IsKind b k e → field b r f ≡ e → field b s g ≡ e → r ≡ s
 one-holder {b} {r} {f} {s} {g} {k} w h h′ e o p q =
     let up = above w (hold-item h) e o in
-    let m = held w h (λ z. omega (arith, up)) in
-    let m′ = held w h′ (λ z. omega (arith, up)) in
+    let m = held (w .sorted) h (λ z. omega (arith, up)) in
+    let m′ = held (w .sorted) h′ (λ z. omega (arith, up)) in
     ap (λ (l : Link). l .holder) (count-one (λ (l : Link). eqb (l .index) e) (links b) (w .once e up (o .0)) m (eq-eqb (field b r f) e p) m′ (eq-eqb (field b s g) e q))
 
 -- ---- a chain and its steps
@@ -278,10 +278,10 @@ module _ {b : List ℕ} (w : Linked b) where
 
       go : (l : Link) × List·Memᴰ l (links b) × (eqb (l .index) e ≡ true) → Below → OnChain b k e
       go x below =
-          let (r, f, k′, h, p) = holder w (x .0) (x .1) in
-          let q : field b r f ≡ e = ap (λ (l : Link). l .index) (sym p) ∙ eqb-true (x .0 .index) e (x .2) in
-          let same : k′ ≡ k = sym (leads w h (λ z. omega (arith, up)) .1 .1) ∙ ap (kind b) q ∙ o .1 in
-          by (subst (Holds b r f) same h) q below
+          let h = holder (w .sorted) (x .0) (x .1) in
+          let q : field b (h .at) (h .field-of) ≡ e = ap (λ (l : Link). l .index) (sym (h .is)) ∙ eqb-true (x .0 .index) e (x .2) in
+          let same : h .want ≡ k = sym (leads w (h .holds) (h .some) .1 .1) ∙ ap (kind b) q ∙ o .1 in
+          by (subst (Holds b (h .at) (h .field-of)) same (h .holds)) q below
 
   pub reached : {k : ℕ} → Item k → (e : ℕ) → IsKind b k e → OnChain b k e
   reached t e o = reached-below t (suc e) e (omega arith) o

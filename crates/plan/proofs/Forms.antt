@@ -2,26 +2,29 @@
 --
 --   Allowed u v       a field of use u may hold v, as a fact; allowed, allow: the same as `allows`
 --   fits-fields       a record fits exactly when each of its five fields is allowed
---   fits-1 .. fits-7  the tests of a record of that kind, out of the table `rows`
+--   suitsAs b r k     the tests of record r by the row of kind k in the table `rows`; fits-as: a record of that kind fits by them
+--   kinds             the kinds in the table; no-row, other-fits: nothing is asked of any other
 --   sized, few, there what line 1 says
 --   header            what line 2 says
 --   kind-low, kind-high
 --                     the kinds that line 3 lets stand at a place
+--   Item k            k is a kind of record that may stand above the junctions; item-mem, mem-item: the same as the test
+--   item-range        no such kind is a junction's or that of record 0
 --
 -- Assumes nothing.
 use mathlib.Core.Path.{_≡_, refl, sym, ap, subst, _∙_}
-use mathlib.Core.Bool.{Bool, true, false, not, _&&_, and-true, and-assoc}
+use mathlib.Core.Bool.{Bool, true, false, not, _&&_}
 use Prim.Native.Nat.{ℕ, _+_, _*_, _≤_, _<_}
-use mathlib.Core.List.{List, [], _∷_}
+use mathlib.Core.List.{List, [], _∷_, List·Memᴰ·not-nil}
 use native.Mathlib.Omega.{arith}
 use lib.ListN.{length}
 use lib.Dec.{eqb, ltb}
 use borrow.Author.Tests.{eqb-true, eq-eqb, ltb-true, lt-ltb, le-leb, lt-leb, not-false}
-use Rattle.plan.specs.Lists.{all, within, mem}
-use Rattle.plan.specs.Records.{field, kind, junctions, records, Use, Any, Unused, Between, Chain, Row, rowOf, rowAt, useAt, fields, allows, fits}
+use Rattle.plan.specs.Lists.{any, all, within, mem}
+use Rattle.plan.specs.Records.{field, kind, junctions, records, Use, Any, Unused, Between, Chain, Row, Entry, rows, chosen, rowIn, rowOf, rowAt, useAt, fields, allows, fits}
 use Rattle.plan.specs.Refusals.{broken1, broken2, kindsBy, rightKind}
 use Rattle.plan.specs.Limits.{Header}
-use Rattle.plan.proofs.Lists.{both, and-is, within-is, is-within}
+use Rattle.plan.proofs.Lists.{both, and-is, neither, within-is, is-within, each, mem-in}
 
 -- ---- one field
 
@@ -72,46 +75,31 @@ fields-fit b r k e h =
     && (allow (row .f2) (field b r 2) (g .1) i
     && (allow (row .f3) (field b r 3) (g .2) i && (allow (row .f4) (field b r 4) (g .3) i && (allow (row .f5) (field b r 5) (g .4) i && true))))
 
--- ---- a record, kind by kind, out of the table `rows`
+-- ---- a record, by the row of its kind in the table `rows`
 
 -- whether a record fits, had it the kind k
-suitsAs : List ℕ → ℕ → ℕ → Bool
+abbrev pub suitsAs : List ℕ → ℕ → ℕ → Bool
 suitsAs b r k = all (λ (f : ℕ). allows (useAt (rowOf (junctions b) k) f) (field b r f)) fields
 
-suits-kind : (b : List ℕ) (r k : ℕ) → kind b r ≡ k → fits b r ≡ suitsAs b r k
-unfolding fits suitsAs
-suits-kind b r k e = ap (λ (n : ℕ). all (λ (f : ℕ). allows (useAt (rowOf (junctions b) n) f) (field b r f)) fields) e
+pub fits-as : (b : List ℕ) (r k : ℕ) → kind b r ≡ k → fits b r ≡ suitsAs b r k
+unfolding fits
+fits-as b r k e = ap (suitsAs b r) e
 
--- tests in a row, grouped as the code asks them
-last-two : (x y z : Bool) → (x && (y && (z && true))) ≡ (x && (y && z))
-last-two x y z = ap (λ (t : Bool). x && (y && t)) (and-true z)
+-- the kinds in the table
+abbrev pub kinds : List ℕ
+kinds = 7 ∷ 1 ∷ 2 ∷ 3 ∷ 4 ∷ []
 
-first-two : (x y z : Bool) → (x && (y && (z && true))) ≡ (x && y && z)
-first-two x y z = last-two x y z ∙ sym (and-assoc x y z)
+-- a kind that is not in the table has a row that asks for nothing
+pub no-row : (k : ℕ) (es : List Entry) → any (λ (e : Entry). eqb k (e .of)) es ≡ false → rowIn k es ≡ rowIn k []
+no-row k [] h = refl
+no-row k (e ∷ es) h =
+    let s = neither (eqb k (e .of)) (any (λ (x : Entry). eqb k (x .of)) es) h in
+    ap (λ (t : Bool). chosen t (e .row) (rowIn k es)) (s .0) ∙ no-row k es (s .1)
 
-two-and-two : (x y z w : Bool) → (x && (y && (z && (w && true)))) ≡ ((x && y) && (z && w))
-two-and-two x y z w = ap (λ (t : Bool). x && t) (last-two y z w) ∙ sym (and-assoc x y (z && w))
-
-module _ (b : List ℕ) (r : ℕ) where
-  pub fits-7 : kind b r ≡ 7 → fits b r ≡ (within 1 (field b r 1) 256 && within 0 (field b r 2) 10 && eqb (field b r 5) 0)
-  unfolding suitsAs rowOf
-  fits-7 e = suits-kind b r 7 e ∙ first-two (within 1 (field b r 1) 256) (within 0 (field b r 2) 10) (eqb (field b r 5) 0)
-
-  pub fits-1 : kind b r ≡ 1 → fits b r ≡ ((eqb (field b r 2) 0 && eqb (field b r 3) 0) && (eqb (field b r 4) 0 && eqb (field b r 5) 0))
-  unfolding suitsAs rowOf
-  fits-1 e = suits-kind b r 1 e ∙ two-and-two (eqb (field b r 2) 0) (eqb (field b r 3) 0) (eqb (field b r 4) 0) (eqb (field b r 5) 0)
-
-  pub fits-2 : kind b r ≡ 2 → fits b r ≡ (within 1 (field b r 2) (junctions b) && (eqb (field b r 4) 0 && eqb (field b r 5) 0))
-  unfolding suitsAs rowOf
-  fits-2 e = suits-kind b r 2 e ∙ last-two (within 1 (field b r 2) (junctions b)) (eqb (field b r 4) 0) (eqb (field b r 5) 0)
-
-  pub fits-3 : kind b r ≡ 3 → fits b r ≡ (eqb (field b r 3) 0 && (eqb (field b r 4) 0 && eqb (field b r 5) 0))
-  unfolding suitsAs rowOf
-  fits-3 e = suits-kind b r 3 e ∙ last-two (eqb (field b r 3) 0) (eqb (field b r 4) 0) (eqb (field b r 5) 0)
-
-  pub fits-4 : kind b r ≡ 4 → fits b r ≡ (within 0 (field b r 2) 1 && within 0 (field b r 3) 1 && eqb (field b r 5) 0)
-  unfolding suitsAs rowOf
-  fits-4 e = suits-kind b r 4 e ∙ first-two (within 0 (field b r 2) 1) (within 0 (field b r 3) 1) (eqb (field b r 5) 0)
+pub other-fits : (b : List ℕ) (r k : ℕ) → kind b r ≡ k → mem k kinds ≡ false → fits b r ≡ true
+unfolding rowOf
+other-fits b r k e h =
+    fits-as b r k e ∙ ap (λ (row : Row). all (λ (f : ℕ). allows (useAt row f) (field b r f)) fields) (no-row k (rows (junctions b)) h)
 
 -- ---- line 1
 
@@ -167,8 +155,27 @@ header-fits b h =
 
 -- ---- line 3, kinds
 
-pub kind-low : (b : List ℕ) (r : ℕ) → r ≤ junctions b → rightKind b r ≡ mem (kind b r) (1 ∷ [])
+pub kind-low : (b : List ℕ) (r : ℕ) → r ≤ junctions b → rightKind b r ≡ mem (kind b r) (kindsBy true)
 kind-low b r h = ap (λ (t : Bool). mem (kind b r) (kindsBy t)) (le-leb r (junctions b) h)
 
-pub kind-high : (b : List ℕ) (r : ℕ) → junctions b < r → rightKind b r ≡ mem (kind b r) (2 ∷ 3 ∷ 4 ∷ [])
+pub kind-high : (b : List ℕ) (r : ℕ) → junctions b < r → rightKind b r ≡ mem (kind b r) (kindsBy false)
 kind-high b r h = ap (λ (t : Bool). mem (kind b r) (kindsBy t)) (lt-leb r (junctions b) h)
+
+-- the kinds of records above the junctions, all of which stand on chains
+pub data Item : ℕ → Type 0 where
+  belts : Item 2
+  rules : Item 3
+  literals : Item 4
+
+pub item-mem : {k : ℕ} → Item k → mem k (kindsBy false) ≡ true
+item-mem belts = refl
+item-mem rules = refl
+item-mem literals = refl
+
+pub mem-item : {k : ℕ} → mem k (kindsBy false) ≡ true → Item k
+mem-item {k} h = each Item belts (each Item rules (each Item literals (λ a m. absurd (List·Memᴰ·not-nil m)))) k (mem-in (kindsBy false) h)
+
+pub item-range : {k : ℕ} → Item k → (2 ≤ k) × (k ≡ 7 → ⊥)
+item-range belts = (omega arith, λ e. omega arith)
+item-range rules = (omega arith, λ e. omega arith)
+item-range literals = (omega arith, λ e. omega arith)

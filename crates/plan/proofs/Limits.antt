@@ -1,6 +1,6 @@
 -- The published limits hold exactly when no line is broken, line by line in both directions.
 --
---   kinds-unbroken, unbroken-kinds      line 3 and the forms of the records
+--   kinds-unbroken, unbroken-kinds      line 3 and the forms of the records; belt-among, literal-among: the form of one kind
 --   rising-well, well-rising            line 4's links and rising chains
 --   upward, chains-unbroken             line 4's pointers and reached once
 --   higher-unbroken, unbroken-higher    line 5
@@ -11,24 +11,24 @@
 use mathlib.Core.Path.{_≡_, refl, sym, _∙_, ap, subst}
 use mathlib.Core.Logic.{_⊎_, inl, inr}
 use mathlib.Core.Bool.{Bool, true, false, not, _&&_}
-use Prim.Native.Nat.{ℕ, zero, suc, _≤_, _<_}
-use mathlib.Core.List.{List, [], _∷_, List·Memᴰ, List·Memᴰ·append-cases, Memᴰ·append-left, Memᴰ·append-right}
+use Prim.Native.Nat.{ℕ, suc, _≤_, _<_}
+use mathlib.Core.List.{List, List·Memᴰ, List·Memᴰ·head, List·Memᴰ·tail}
 use native.Mathlib.Omega.{arith}
 use lib.ListN.{length}
 use lib.Dec.{eqb, leb}
 use borrow.Author.Tests.{eqb-true, le-ltb, leb-true, leb-false, lt-leb}
 use Rattle.plan.specs.Lists.{mem, upto, count}
-use Rattle.plan.specs.Records.{field, kind, junctions, records, rowOf, fits, Link, linkTo, linksAt, links, chain}
+use Rattle.plan.specs.Records.{field, kind, junctions, records, rowOf, fits, Link, links, chain}
 use Rattle.plan.specs.Plan.{Belt, planOf, named, beltAt}
-use Rattle.plan.specs.Refusals.{broken3, broken4, broken5, broken6, broken7, rightKind, literalFits, misnames, backward, refusal}
+use Rattle.plan.specs.Refusals.{broken3, broken4, broken5, broken6, broken7, kindsBy, rightKind, literalFits, misnames, backward, refusal}
 use Rattle.plan.specs.Inner.{Passed2, Passed4}
-use Rattle.plan.specs.Limits.{Sizes, Header, JunctionForm, BeltForm, RuleForm, LiteralForm, Kinds, Leads, Rising, Names, reached, Limits}
+use Rattle.plan.specs.Limits.{Sizes, Header, JunctionForm, BeltForm, RuleForm, LiteralForm, ItemForm, is-belt, is-rule, is-literal, Kinds, Leads, Rising, Names, reached, Limits}
 use Rattle.plan.proofs.Lists.{any-none, none-any, in-upto, upto-in, test}
-use Rattle.plan.proofs.Forms.{sized, few, size-fits, header, header-fits, fits-fields, fields-fit, kind-low, kind-high}
-use Rattle.plan.proofs.Links.{Well, Upward, Linked, link, linksAt-7, linksAt-1, linksAt-2, linksAt-3, linksAt-4, in-linkTo, linkTo-in, in-links, links-in}
+use Rattle.plan.proofs.Forms.{sized, few, size-fits, header, header-fits, fits-fields, fields-fit, kind-low, kind-high, Item, belts, rules, literals, item-mem, item-range}
+use Rattle.plan.proofs.Links.{Well, Upward, Sorted, Linked, link, targets, in-links, in-linksAt}
 use Rattle.plan.proofs.Passed.{right, wrong-none, no-bad-link, linked}
 use Rattle.plan.proofs.Reached.{once-reached, reached-once}
-use Rattle.plan.proofs.Chains.{literals, above, belt-chain-in, belt-reached, leaves-is, belt-in-plan, plan-belt}
+use Rattle.plan.proofs.Chains.{Holds, starts, goes-on, of-junction, of-plan, of-rule, hold-item, holder, above, belt-chain-in, belt-reached, leaves-is, belt-in-plan, plan-belt}
 use Rattle.plan.proofs.Literals.{fits-names, names-fits, unbroken-fits}
 use Rattle.plan.proofs.Naming.{few-named}
 use Rattle.plan.proofs.Accepted.{accepted-passed, passed-accepted}
@@ -69,22 +69,37 @@ module _ (b : List ℕ) (r : ℕ) where
   literal-fits e = fields-fit b r 4 (e .kind-4) (tt, (omega arith, e .wanted), (omega arith, e .sort), tt, e .zero-5)
 
   low-right : r ≤ junctions b → JunctionForm b r → (rightKind b r ≡ true) × (fits b r ≡ true)
-  low-right u j = (kind-low b r u ∙ ap (λ (k : ℕ). mem k (1 ∷ [])) (j .kind-1), junction-fits j)
+  low-right u j = (kind-low b r u ∙ ap (λ (k : ℕ). mem k (kindsBy true)) (j .kind-1), junction-fits j)
 
-  high-right : junctions b < r → BeltForm b r ⊎ (RuleForm b r ⊎ LiteralForm b r) → (rightKind b r ≡ true) × (fits b r ≡ true)
-  high-right u (inl e) = (kind-high b r u ∙ ap (λ (k : ℕ). mem k (2 ∷ 3 ∷ 4 ∷ [])) (e .kind-2), belt-fits e)
-  high-right u (inr (inl e)) = (kind-high b r u ∙ ap (λ (k : ℕ). mem k (2 ∷ 3 ∷ 4 ∷ [])) (e .kind-3), rule-fits e)
-  high-right u (inr (inr e)) = (kind-high b r u ∙ ap (λ (k : ℕ). mem k (2 ∷ 3 ∷ 4 ∷ [])) (e .kind-4), literal-fits e)
+  -- a record above the junctions, kind by kind: it fits, it is of a kind that may stand there, and what fits has the form of its kind
+  item-fits : ItemForm b r → fits b r ≡ true
+  item-fits (is-belt e) = belt-fits e
+  item-fits (is-rule e) = rule-fits e
+  item-fits (is-literal e) = literal-fits e
 
-  high-form : fits b r ≡ true → (kind b r ≡ 2) ⊎ ((kind b r ≡ 3) ⊎ (kind b r ≡ 4)) → BeltForm b r ⊎ (RuleForm b r ⊎ LiteralForm b r)
-  high-form h (inl e) = inl (belt-form e h)
-  high-form h (inr (inl e)) = inr (inl (rule-form e h))
-  high-form h (inr (inr e)) = inr (inr (literal-form e h))
+  item-kind : ItemForm b r → Item (kind b r)
+  item-kind (is-belt e) = subst Item (sym (e .kind-2)) belts
+  item-kind (is-rule e) = subst Item (sym (e .kind-3)) rules
+  item-kind (is-literal e) = subst Item (sym (e .kind-4)) literals
 
-  high-kind : BeltForm b r ⊎ (RuleForm b r ⊎ LiteralForm b r) → (kind b r ≡ 2) ⊎ ((kind b r ≡ 3) ⊎ (kind b r ≡ 4))
-  high-kind (inl e) = inl (e .kind-2)
-  high-kind (inr (inl e)) = inr (inl (e .kind-3))
-  high-kind (inr (inr e)) = inr (inr (e .kind-4))
+  item-form : (k : ℕ) → Item k → kind b r ≡ k → fits b r ≡ true → ItemForm b r
+  item-form _ belts e h = is-belt (belt-form e h)
+  item-form _ rules e h = is-rule (rule-form e h)
+  item-form _ literals e h = is-literal (literal-form e h)
+
+  high-right : junctions b < r → ItemForm b r → (rightKind b r ≡ true) × (fits b r ≡ true)
+  high-right u e = (kind-high b r u ∙ item-mem (item-kind e), item-fits e)
+
+  -- and where its kind is known, it has the form of that kind
+  pub belt-among : kind b r ≡ 2 → ItemForm b r → BeltForm b r
+  belt-among k (is-belt e) = e
+  belt-among k (is-rule e) = absurd (omega (arith, e .kind-3))
+  belt-among k (is-literal e) = absurd (omega (arith, e .kind-4))
+
+  pub literal-among : kind b r ≡ 4 → ItemForm b r → LiteralForm b r
+  literal-among k (is-belt e) = absurd (omega (arith, e .kind-2))
+  literal-among k (is-rule e) = absurd (omega (arith, e .kind-3))
+  literal-among k (is-literal e) = e
 
 kinds-unbroken : (b : List ℕ) → Kinds b → broken3 b ≡ false
 kinds-unbroken b k = wrong-none b (λ r l u. go r l u (test (leb r (junctions b))))
@@ -95,75 +110,48 @@ kinds-unbroken b k = wrong-none b (λ r l u. go r l u (test (leb r (junctions b)
 
 unbroken-kinds : (b : List ℕ) → Passed4 b → Kinds b
 unbroken-kinds b h =
-    let w = linked b h in
+    let w = linked b h .sorted in
     record {
       low = λ r l u. junction-form b r (w .low r l u) (right b (h .1) r l (omega (arith, w .room)) .1);
-      high = λ r l u. high-form b r (right b (h .1) r (omega arith) u .1) (w .high r l u);
+      high = λ r l u. item-form b r (kind b r) (w .high r l u) refl (right b (h .1) r (omega arith) u .1);
     }
 
 -- ---- line 4: rising chains
 
--- a record of a plan whose kinds are right
-data Sort (b : List ℕ) (r : ℕ) : Type 0 where
-  top : kind b r ≡ 7 → Sort b r
-  low : kind b r ≡ 1 → Sort b r
-  high : (kind b r ≡ 2) ⊎ ((kind b r ≡ 3) ⊎ (kind b r ≡ 4)) → Sort b r
+sorted : (b : List ℕ) → Header b → Kinds b → Sorted b
+sorted b h k = record {
+  room = h .room;
+  top = h .kind-7;
+  low = λ r l u. k .low r l u .kind-1;
+  high = λ r l u. item-kind b r (k .high r l u);
+}
 
-sort : (b : List ℕ) → Header b → Kinds b → (r : ℕ) → r < records b → Sort b r
-sort b h k zero u = top (h .kind-7)
-sort b h k (suc r) u = go (test (leb (suc r) (junctions b)))
-  where
-    go : (leb (suc r) (junctions b) ≡ true) ⊎ (leb (suc r) (junctions b) ≡ false) → Sort b (suc r)
-    go (inl t) = low (k .low (suc r) (omega arith) (leb-true (suc r) (junctions b) t) .kind-1)
-    go (inr t) = high (high-kind b (suc r) (k .high (suc r) (leb-false (suc r) (junctions b) t) u))
+-- a chain index leads as the limits say of its holder's kind
+rising-leads : {b : List ℕ} {r f k : ℕ} → Sorted b → Rising b → Holds b r f k → Leads b r (field b r f) k
+rising-leads w g (starts (of-junction {j} l h)) = g .first-belt j (omega (arith, w .room)) (w .low j l h)
+rising-leads w g (starts of-plan) = g .first-rule
+rising-leads w g (starts (of-rule {r} o)) = g .first-literal r (o .0) (o .1)
+rising-leads w g (goes-on {r} belts o) = g .next-belt r (o .0) (o .1)
+rising-leads w g (goes-on {r} rules o) = g .next-rule r (o .0) (o .1)
+rising-leads w g (goes-on {r} literals o) = g .next-literal r (o .0) (o .1)
 
-module _ (b : List ℕ) (h : Header b) (k : Kinds b) (g : Rising b) where
-  -- a chain index that leads well is a link that leads well
-  one : (r i w : ℕ) → Leads b r i w → (l : Link) → List·Memᴰ l (linkTo r i w) → Well b l
-  one r i w f l m = let e = linkTo-in r i w l m in subst (Well b) (sym (e .0)) (f (e .1))
-
-  -- only record 0 is of kind 7
-  only-top : (r : ℕ) → r < records b → kind b r ≡ 7 → r ≡ 0
-  only-top zero u e = refl
-  only-top (suc r) u e = go (test (leb (suc r) (junctions b)))
-    where
-      not-high : (kind b (suc r) ≡ 2) ⊎ ((kind b (suc r) ≡ 3) ⊎ (kind b (suc r) ≡ 4)) → ⊥
-      not-high (inl q) = omega arith
-      not-high (inr (inl q)) = omega arith
-      not-high (inr (inr q)) = omega arith
-
-      go : (leb (suc r) (junctions b) ≡ true) ⊎ (leb (suc r) (junctions b) ≡ false) → suc r ≡ 0
-      go (inl t) = absurd (omega (arith, k .low (suc r) (omega arith) (leb-true (suc r) (junctions b) t) .kind-1))
-      go (inr t) = absurd (not-high (high-kind b (suc r) (k .high (suc r) (leb-false (suc r) (junctions b) t) u)))
-
-  at : (r : ℕ) → r < records b → (l : Link) → List·Memᴰ l (linksAt b r) → Sort b r → Well b l
-  at r u l m (top e) =
-      let z = only-top r u e in
-      one r (field b r 3) 3 (subst (λ (n : ℕ). Leads b n (field b n 3) 3) (sym z) (g .first-rule)) l (subst (List·Memᴰ l) (linksAt-7 b r e) m)
-  at r u l m (low e) = one r (field b r 1) 2 (g .first-belt r u e) l (subst (List·Memᴰ l) (linksAt-1 b r e) m)
-  at r u l m (high (inl e)) = one r (field b r 1) 2 (g .next-belt r u e) l (subst (List·Memᴰ l) (linksAt-2 b r e) m)
-  at r u l m (high (inr (inr e))) = one r (field b r 1) 4 (g .next-literal r u e) l (subst (List·Memᴰ l) (linksAt-4 b r e) m)
-  at r u l m (high (inr (inl e))) = go (List·Memᴰ·append-cases (linkTo r (field b r 1) 3) (subst (List·Memᴰ l) (linksAt-3 b r e) m))
-    where
-      go : List·Memᴰ l (linkTo r (field b r 1) 3) ⊎ List·Memᴰ l (linkTo r (field b r 2) 4) → Well b l
-      go (inl x) = one r (field b r 1) 3 (g .next-rule r u e) l x
-      go (inr x) = one r (field b r 2) 4 (g .first-literal r u e) l x
-
-  rising-well : (l : Link) → List·Memᴰ l (links b) → Well b l
-  rising-well l m = let x = links-in b l m in at (x .0) (x .1) l (x .2) (sort b h k (x .0) (x .1))
+rising-well : (b : List ℕ) → Sorted b → Rising b → (l : Link) → List·Memᴰ l (links b) → Well b l
+rising-well b w g l m = let h = holder w l m in subst (Well b) (sym (h .is)) (rising-leads w g (h .holds) (h .some))
 
 module _ (b : List ℕ) (w : Linked b) where
-  leads-by : (r i k : ℕ) → r < records b → ((i ≡ 0 → ⊥) → List·Memᴰ (link r i k) (linksAt b r)) → Leads b r i k
-  leads-by r i k u f d = w .well (link r i k) (in-links b r (link r i k) u (f d))
+  -- field f, which by its kind n leads to kind k
+  leads-by : (r n f k : ℕ) → r < records b → kind b r ≡ n → List·Memᴰ (f, k) (targets b n) → Leads b r (field b r f) k
+  leads-by r n f k u e m d = w .well (link r (field b r f) k) (in-links b r (link r (field b r f) k) u (in-linksAt b r n f k e m d))
 
   well-rising : Rising b
+  unfolding rowOf
   well-rising = record {
-    first-rule = leads-by 0 (field b 0 3) 3 (omega (arith, w .room)) (λ d. subst (List·Memᴰ _) (sym (linksAt-7 b 0 (w .top))) (in-linkTo 0 (field b 0 3) 3 d));
-    first-belt = λ r u e. leads-by r (field b r 1) 2 u (λ d. subst (List·Memᴰ _) (sym (linksAt-1 b r e)) (in-linkTo r (field b r 1) 2 d));
-    next-belt = λ r u e. leads-by r (field b r 1) 2 u (λ d. subst (List·Memᴰ _) (sym (linksAt-2 b r e)) (in-linkTo r (field b r 1) 2 d));
-    next-rule = λ r u e. leads-by r (field b r 1) 3 u (λ d. subst (List·Memᴰ _) (sym (linksAt-3 b r e)) (Memᴰ·append-left (linkTo r (field b r 2) 4) (in-linkTo r (field b r 1) 3 d)));
-    first-literal = λ r u e. leads-by r (field b r 2) 4 u (λ d. subst (List·Memᴰ _) (sym (linksAt-3 b r e)) (Memᴰ·append-right (linkTo r (field b r 1) 3) (in-linkTo r (field b r 2) 4 d)));
-    next-literal = λ r u e. leads-by r (field b r 1) 4 u (λ d. subst (List·Memᴰ _) (sym (linksAt-4 b r e)) (in-linkTo r (field b r 1) 4 d));
+    first-rule = leads-by 0 7 3 3 (omega (arith, w .sorted .room)) (w .sorted .top) (List·Memᴰ·head refl);
+    first-belt = λ r u e. leads-by r 1 1 2 u e (List·Memᴰ·head refl);
+    next-belt = λ r u e. leads-by r 2 1 2 u e (List·Memᴰ·head refl);
+    next-rule = λ r u e. leads-by r 3 1 3 u e (List·Memᴰ·head refl);
+    first-literal = λ r u e. leads-by r 3 2 4 u e (List·Memᴰ·tail (List·Memᴰ·head refl));
+    next-literal = λ r u e. leads-by r 4 1 4 u e (List·Memᴰ·head refl);
   }
 
 -- ---- line 4: reached once
@@ -171,37 +159,25 @@ module _ (b : List ℕ) (w : Linked b) where
 module _ (b : List ℕ) (h : Header b) (k : Kinds b) (g : Rising b) where
   -- no link wants a junction
   wants : (l : Link) → List·Memᴰ l (links b) → 2 ≤ l .want
-  wants l m = let x = links-in b l m in at-sort (x .0) (x .1) (x .2) (sort b h k (x .0) (x .1))
-    where
-      by : (r i w : ℕ) → 2 ≤ w → List·Memᴰ l (linkTo r i w) → 2 ≤ l .want
-      by r i w q y = subst (λ (z : Link). 2 ≤ z .want) (sym (linkTo-in r i w l y .0)) q
-
-      at-sort : (r : ℕ) → r < records b → List·Memᴰ l (linksAt b r) → Sort b r → 2 ≤ l .want
-      at-sort r u y (top e) = by r (field b r 3) 3 (omega arith) (subst (List·Memᴰ l) (linksAt-7 b r e) y)
-      at-sort r u y (low e) = by r (field b r 1) 2 (omega arith) (subst (List·Memᴰ l) (linksAt-1 b r e) y)
-      at-sort r u y (high (inl e)) = by r (field b r 1) 2 (omega arith) (subst (List·Memᴰ l) (linksAt-2 b r e) y)
-      at-sort r u y (high (inr (inr e))) = by r (field b r 1) 4 (omega arith) (subst (List·Memᴰ l) (linksAt-4 b r e) y)
-      at-sort r u y (high (inr (inl e))) = pick (List·Memᴰ·append-cases (linkTo r (field b r 1) 3) (subst (List·Memᴰ l) (linksAt-3 b r e) y))
-        where
-          pick : List·Memᴰ l (linkTo r (field b r 1) 3) ⊎ List·Memᴰ l (linkTo r (field b r 2) 4) → 2 ≤ l .want
-          pick (inl z) = by r (field b r 1) 3 (omega arith) z
-          pick (inr z) = by r (field b r 2) 4 (omega arith) z
+  wants l m =
+      let x = holder (sorted b h k) l m in
+      subst (λ (z : Link). 2 ≤ z .want) (sym (x .is)) (item-range (hold-item (x .holds)) .0)
 
   upward : Upward b
   upward l m =
-      let w = rising-well b h k g l m in
+      let w = rising-well b (sorted b h k) g l m in
       (w .0, w .1, go (test (leb (l .index) (junctions b))))
     where
       go : (leb (l .index) (junctions b) ≡ true) ⊎ (leb (l .index) (junctions b) ≡ false) → junctions b < l .index
       go (inl t) =
-          let w = rising-well b h k g l m in
+          let w = rising-well b (sorted b h k) g l m in
           absurd (omega (arith, w .0, w .2, wants l m, k .low (l .index) (omega (arith, w .0)) (leb-true (l .index) (junctions b) t) .kind-1))
       go (inr t) = leb-false (l .index) (junctions b) t
 
   -- ---- lines 1 to 4
 
   chains-unbroken : ((r : ℕ) → junctions b < r → r < records b → count (eqb r) (reached b) ≡ 1) → broken4 b ≡ false
-  chains-unbroken o = no-bad-link b (rising-well b h k g) (reached-once b (h .room) upward o)
+  chains-unbroken o = no-bad-link b (rising-well b (sorted b h k) g) (reached-once b (h .room) upward o)
 
 sizes-passed : (b : List ℕ) → Sizes b → Header b → Passed2 b
 sizes-passed b s h = (size-fits b (record { least = omega arith; most = omega arith; whole = s .whole }), header-fits b h)
@@ -245,16 +221,11 @@ names-unbroken b k h =
     let i = upto-in (suc (junctions b)) (records b) l m in
     go l (i .0) (i .1) (test (eqb (kind b l) 4)))
   where
-    form : (l : ℕ) → kind b l ≡ 4 → BeltForm b l ⊎ (RuleForm b l ⊎ LiteralForm b l) → LiteralForm b l
-    form l e (inl x) = absurd (omega (arith, x .kind-2))
-    form l e (inr (inl x)) = absurd (omega (arith, x .kind-3))
-    form l e (inr (inr x)) = x
-
     go : (l : ℕ) → junctions b < l → l < records b → (eqb (kind b l) 4 ≡ true) ⊎ (eqb (kind b l) 4 ≡ false) → misnames b l ≡ false
     go l u v (inr t) = ap (λ (x : Bool). x && not (literalFits b l)) t
     go l u v (inl t) =
         let e = eqb-true (kind b l) 4 t in
-        λ i. t i && not (names-fits b l (form l e (k .high l u v) .sort) (h l v e) i)
+        λ i. t i && not (names-fits b l (literal-among b l e (k .high l u v) .sort) (h l v e) i)
 
 unbroken-names : (b : List ℕ) → Linked b → broken6 b ≡ false → (l : ℕ) → l < records b → kind b l ≡ 4 → Names b l
 unbroken-names b w h l u e = fits-names b l (unbroken-fits b h l (above w literals l (u, e)) u e)
@@ -282,7 +253,7 @@ accepted-limits b e =
       header = top;
       kinds = k;
       rising = g;
-      once = once-reached b (w .room) (upward b top k g) (w .once);
+      once = once-reached b (w .sorted .room) (upward b top k g) (w .once);
       higher = unbroken-higher b w (h .0 .1);
       literals = unbroken-names b w (h .0 .2);
       few-named = few-named b (h .1);

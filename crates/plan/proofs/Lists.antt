@@ -5,7 +5,7 @@ use mathlib.Core.Path.{_≡_, refl, sym, _∙_, ap, subst}
 use mathlib.Core.Logic.{_⊎_, inl, inr}
 use mathlib.Core.Bool.{Bool, true, false, not, _&&_, _||_, Bool·beq, true≢false}
 use Prim.Native.Nat.{ℕ, zero, suc, _+_, _-_, _≤_, _<_}
-use mathlib.Core.List.{List, [], _∷_, _++_, map, List·Memᴰ, List·Memᴰ·head, List·Memᴰ·tail, List·Memᴰ·not-nil, List·Memᴰ·cases-cons, List·Memᴰ·append-cases, Memᴰ·append-left, Memᴰ·append-right, Memᴰ·cast}
+use mathlib.Core.List.{List, [], _∷_, _++_, map, List·Memᴰ, List·Memᴰ·head, List·Memᴰ·tail, List·Memᴰ·not-nil, List·Memᴰ·cases-cons, List·Memᴰ·append-cases, Memᴰ·append-left, Memᴰ·append-right, Memᴰ·cast, append-assoc}
 use native.Mathlib.Omega.{arith}
 use native.Mathlib.Nat.{eq-or-lt-of-le}
 use native.Mathlib.Numerals.{add-one}
@@ -214,6 +214,10 @@ map-in {A} f {b} (x ∷ xs) m = go (List·Memᴰ·cases-cons m) (map-in f xs)
     go : (b ≡ f x) ⊎ List·Memᴰ b (map f xs) → (List·Memᴰ b (map f xs) → (a : A) × List·Memᴰ a xs × (b ≡ f a)) → (a : A) × List·Memᴰ a (x ∷ xs) × (b ≡ f a)
     go (inl e) below = (x, List·Memᴰ·head refl, e)
     go (inr k) below = let r = below k in (r .0, List·Memᴰ·tail (r .1), r .2)
+
+pub joined-append : {A B : Type 0} (f : A → List B) (xs ys : List A) → joined f (xs ++ ys) ≡ joined f xs ++ joined f ys
+joined-append f [] ys = refl
+joined-append f (x ∷ xs) ys = ap (λ (l : List _). f x ++ l) (joined-append f xs ys) ∙ sym (append-assoc (f x) (joined f xs) (joined f ys))
 
 pub in-joined : {A B : Type 0} (f : A → List B) {a : A} {b : B} {xs : List A} → List·Memᴰ a xs → List·Memᴰ b (f a) → List·Memᴰ b (joined f xs)
 in-joined f {b = b} (List·Memᴰ·head {x} {xs} e) m = Memᴰ·append-left (joined f xs) (subst (λ c. List·Memᴰ b (f c)) e m)

@@ -2,6 +2,7 @@
 --
 --   follow-zero, -far, -back, -kind, -well   what following one chain index finds, by the tests that tell it
 --   followed-as, -stop, -next                following the same links; two lists of links, one after the other
+--   followed-kind                            following the chain fields of a record's kind is following its links
 --   pass-stop, -next, marks-next             a loop that follows lists of links, one after the other
 --   once-marked                              a record is marked as met once exactly where one link leads to it
 --
@@ -16,11 +17,11 @@ use lib.Seq.{getD-set-same, getD-set-other}
 use lib.Dec.{eqb, ltb}
 use borrow.Author.Tests.{eqb-true, eqb-false, eq-eqb, ne-eqb, lt-ltb, le-ltb}
 use Rattle.plan.specs.Lists.{any, counted, joined, upto}
-use Rattle.plan.specs.Records.{kind, records, Link, linkTo}
+use Rattle.plan.specs.Records.{kind, records, Link, linkTo, linksAt}
 use Rattle.plan.specs.Refusals.{badLink, pointers}
-use Rattle.plan.specs.Inner.{bump, mark, marked, markedOnce, Followed}
+use Rattle.plan.specs.Inner.{linksBy, bump, mark, marked, markedOnce, Followed}
 use Rattle.plan.proofs.Lists.{any-append, any-cong, upto-step, upto-end, upto-in}
-use Rattle.plan.proofs.Links.{link}
+use Rattle.plan.proofs.Links.{targets, linksAt-by, link}
 
 -- ---- one chain index
 
@@ -76,6 +77,10 @@ module _ (b seen later : List ℕ) (xs ys : List Link) where
     k .0 ∙ sym (any-append (badLink b) xs ys ∙ ap (λ (x : Bool). x || any (badLink b) ys) (sym (h .0) ∙ e)),
     λ u. k .1 u ∙ ap (λ (m : List ℕ). marked m ys) (h .1 e) ∙ sym (marked-append seen xs ys),
   )
+
+-- a record of kind k, whose chain fields have been followed
+pub followed-kind : (b seen later : List ℕ) (r k : ℕ) {t : Bool} → kind b r ≡ k → Followed b (linksBy b r (targets b k)) seen later t → Followed b (linksAt b r) seen later t
+followed-kind b seen later r k e = followed-as b seen later (linksBy b r (targets b k)) (linksAt b r) (sym (linksAt-by b r k e))
 
 module _ (f : Link → Bool) (g : ℕ → List Link) (r hi : ℕ) where
   pub pass-stop : r < hi → any f (g r) ≡ true → any f (joined g (upto r hi)) ≡ true

@@ -33,9 +33,9 @@ use Rattle.plan.specs.Inner.{markedOnce, namesBelt, note, noted, notes}
 use Rattle.plan.proofs.Lists.{test, both, and-is, in-any, any-some, in-keep, keep-in, in-map, map-in, in-upto, upto-in, upto-step, upto-end}
 use Rattle.plan.proofs.Counts.{length-keep}
 use Rattle.plan.proofs.Rising.{Rises, upto-rises, keep-rises, rises-equal}
-use Rattle.plan.proofs.Forms.{few}
+use Rattle.plan.proofs.Forms.{few, literals}
 use Rattle.plan.proofs.Literals.{unbroken-fits, fits-names}
-use Rattle.plan.proofs.Chains.{literals, above, rule-chain-in, literal-chain-in, rule-reached, literal-reached, record-belt, belt-record, records-rise}
+use Rattle.plan.proofs.Chains.{above, rule-chain-in, literal-chain-in, rule-reached, literal-reached, record-belt, belt-record, records-rise}
 use Rattle.plan.proofs.Passed.{linked}
 
 -- ---- line 6

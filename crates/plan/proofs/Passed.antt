@@ -6,19 +6,18 @@
 --
 -- Assumes nothing.
 use mathlib.Core.Path.{_≡_, sym, _∙_, ap}
-use mathlib.Core.Logic.{_⊎_, inl, inr}
 use mathlib.Core.Bool.{Bool, true, false, not, _&&_}
 use Prim.Native.Nat.{ℕ, suc, _≤_, _<_}
-use mathlib.Core.List.{List, [], _∷_, List·Memᴰ, List·Memᴰ·cases-cons, List·Memᴰ·eq-of-singleton}
+use mathlib.Core.List.{List, List·Memᴰ, List·Memᴰ·eq-of-singleton}
 use native.Mathlib.Omega.{arith}
 use lib.Dec.{eqb, ltb}
 use borrow.Author.Tests.{eqb-true, eq-eqb, ltb-true, lt-ltb, not-false}
 use Rattle.plan.specs.Lists.{any, upto}
 use Rattle.plan.specs.Records.{kind, junctions, records, fits, Link, links}
-use Rattle.plan.specs.Refusals.{broken3, broken4, rightKind, badLink, pointers}
+use Rattle.plan.specs.Refusals.{broken3, broken4, kindsBy, rightKind, badLink, pointers}
 use Rattle.plan.specs.Inner.{Passed4}
 use Rattle.plan.proofs.Lists.{both, and-is, neither, or-is, any-none, none-any, mem-in, in-upto, upto-in}
-use Rattle.plan.proofs.Forms.{header, kind-low, kind-high}
+use Rattle.plan.proofs.Forms.{header, kind-low, kind-high, Item, mem-item}
 use Rattle.plan.proofs.Links.{Well, Linked}
 
 -- ---- line 3
@@ -39,18 +38,10 @@ wrong-none b h =
     ap not (and-is (rightKind b r) (fits b r) (k .0) (k .1)))
 
 low : (b : List ℕ) (r : ℕ) → r ≤ junctions b → rightKind b r ≡ true → kind b r ≡ 1
-low b r u h = List·Memᴰ·eq-of-singleton (mem-in (1 ∷ []) (sym (kind-low b r u) ∙ h))
+low b r u h = List·Memᴰ·eq-of-singleton (mem-in (kindsBy true) (sym (kind-low b r u) ∙ h))
 
-high : (b : List ℕ) (r : ℕ) → junctions b < r → rightKind b r ≡ true → (kind b r ≡ 2) ⊎ ((kind b r ≡ 3) ⊎ (kind b r ≡ 4))
-high b r u h = second (List·Memᴰ·cases-cons (mem-in (2 ∷ 3 ∷ 4 ∷ []) (sym (kind-high b r u) ∙ h)))
-  where
-    third : (kind b r ≡ 3) ⊎ List·Memᴰ (kind b r) (4 ∷ []) → (kind b r ≡ 3) ⊎ (kind b r ≡ 4)
-    third (inl e) = inl e
-    third (inr m) = inr (List·Memᴰ·eq-of-singleton m)
-
-    second : (kind b r ≡ 2) ⊎ List·Memᴰ (kind b r) (3 ∷ 4 ∷ []) → (kind b r ≡ 2) ⊎ ((kind b r ≡ 3) ⊎ (kind b r ≡ 4))
-    second (inl e) = inl e
-    second (inr m) = inr (third (List·Memᴰ·cases-cons m))
+high : (b : List ℕ) (r : ℕ) → junctions b < r → rightKind b r ≡ true → Item (kind b r)
+high b r u h = mem-item (sym (kind-high b r u) ∙ h)
 
 -- ---- line 4
 
@@ -93,10 +84,12 @@ pub linked : (b : List ℕ) → Passed4 b → Linked b
 linked b h =
     let top = header b (h .0 .1) in
     record {
-      room = top .room;
-      top = top .kind-7;
-      low = λ r l u. low b r u (right b (h .1) r l (omega (arith, top .room)) .0);
-      high = λ r l u. high b r l (right b (h .1) r (omega arith) u .0);
+      sorted = record {
+        room = top .room;
+        top = top .kind-7;
+        low = λ r l u. low b r u (right b (h .1) r l (omega (arith, top .room)) .0);
+        high = λ r l u. high b r l (right b (h .1) r (omega arith) u .0);
+      };
       well = well b (h .2);
       once = once b (h .2);
     }

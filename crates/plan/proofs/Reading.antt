@@ -30,7 +30,6 @@
 --
 -- Assumes nothing.
 use mathlib.Core.Path.{_≡_, refl, sym, _∙_, ap, subst}
-use mathlib.Core.Logic.{_⊎_, inl, inr}
 use mathlib.Core.Bool.{Bool, true, false}
 use Prim.Native.Nat.{ℕ, zero, suc, _+_, _*_, _≤_, _<_}
 use mathlib.Core.List.{List, [], _∷_, map, List·Memᴰ}
@@ -45,16 +44,17 @@ use Rattle.plan.specs.declared.read.Literal.the-variants.{OfBelt, OfMode
 use Rattle.plan.specs.Lists.{mem}
 use Rattle.plan.specs.Records.{field, kind, junctions, modes, records, chain}
 use Rattle.plan.specs.Plan.{Belt, Plan, planOf, leaves, beltAt, beltRecords, literalBy, literalAt, ruleAt, namesOf, leaving, named}
-use Rattle.plan.specs.Limits.{Limits, LiteralForm, BeltForm, RuleForm}
+use Rattle.plan.specs.Limits.{Limits}
 use Rattle.plan.specs.Reading.{Accepted, Bytes, IsBelt, IsRule, IsLiteral, firstBelt, nextBelt, firstRule, nextRule, firstLiteral, nextLiteral, beltsFrom, rulesFrom, literalsFrom}
 use Rattle.plan.proofs.Lists.{untrue, alike, in-keep, keep-in, in-map, map-in, in-mem, mem-in}
+use Rattle.plan.proofs.Forms.{belts, literals}
 use Rattle.plan.proofs.Links.{Linked}
 use Rattle.plan.proofs.Rising.{Rises}
 use Rattle.plan.proofs.Passed.{linked}
-use Rattle.plan.proofs.Chains.{above, belts, literals, chain-end, belt-step, rule-step, literal-step, first-belt, next-belt, first-rule, next-rule, first-literal, next-literal, rule-chain-in, literal-chain-in, belt-reached, rule-reached, leaves-is, records-rise, belt-in-plan, plan-belt, leaving-chain}
+use Rattle.plan.proofs.Chains.{above, chain-end, belt-step, rule-step, literal-step, first-belt, next-belt, first-rule, next-rule, first-literal, next-literal, rule-chain-in, literal-chain-in, belt-reached, rule-reached, leaves-is, records-rise, belt-in-plan, plan-belt, leaving-chain}
 use Rattle.plan.proofs.Naming.{names-back}
 use Rattle.plan.proofs.Accepted.{accepted-passed}
-use Rattle.plan.proofs.Limits.{accepted-limits}
+use Rattle.plan.proofs.Limits.{belt-among, literal-among, accepted-limits}
 
 -- ---- the numbers of literals
 
@@ -199,13 +199,8 @@ module _ {b : List ℕ} (ok : Accepted b) where
       let all = limits in
       let (o, q) = belt-of x m in
       let l : 1 ≤ x .leaves = subst (λ (y : Belt). 1 ≤ y .leaves) (sym q) (on-chain (x .name) o .0) in
-      let form = go (all .kinds .high (x .name) (above links belts (x .name) o) (o .0)) (o .1) in
-      (l, all .higher x m, subst (λ (y : Belt). y .leads ≤ junctions b) (sym q) form)
-    where
-      go : BeltForm b (x .name) ⊎ (RuleForm b (x .name) ⊎ LiteralForm b (x .name)) → kind b (x .name) ≡ 2 → field b (x .name) 2 ≤ junctions b
-      go (inl f) k = f .leads-to
-      go (inr (inl f)) k = absurd (omega (arith, f .kind-3))
-      go (inr (inr f)) k = absurd (omega (arith, f .kind-4))
+      let form = belt-among b (x .name) (o .1) (all .kinds .high (x .name) (above links belts (x .name) o) (o .0)) in
+      (l, all .higher x m, subst (λ (y : Belt). y .leads ≤ junctions b) (sym q) (form .leads-to))
 
   pub belt-leaving : (x : Belt) → List·Memᴰ x (planOf b .belts) → List·Memᴰ x (leaving (planOf b) (x .leaves))
   belt-leaving x m = in-leaving (planOf b) (x .leaves) x m refl
@@ -242,15 +237,10 @@ module _ {b : List ℕ} (ok : Accepted b) where
       let all = limits in
       let (l, o, q) = literal-at rule i (OfMode m wanted) k in
       let (t, n) = by-mode (eqb (field b l 3) 0) (eqb (field b l 2) 1) (field b l 4) m wanted q in
-      let form = go l (all .kinds .high l (above links literals l o) (o .0)) (o .1) in
-      let one = one-of (field b l 3) form (eqb-false (field b l 3) 0 t) in
+      let form = literal-among b l (o .1) (all .kinds .high l (above links literals l o) (o .0)) in
+      let one = one-of (field b l 3) (form .sort) (eqb-false (field b l 3) 0 t) in
       subst (λ (x : ℕ). (1 ≤ x) × (x ≤ modes b)) (sym n) (all .literals l (o .0) (o .1) .mode one)
     where
-      go : (l : ℕ) → BeltForm b l ⊎ (RuleForm b l ⊎ LiteralForm b l) → kind b l ≡ 4 → field b l 3 ≤ 1
-      go l (inl f) z = absurd (omega (arith, f .kind-2))
-      go l (inr (inl f)) z = absurd (omega (arith, f .kind-3))
-      go l (inr (inr f)) z = f .sort
-
       one-of : (n : ℕ) → n ≤ 1 → (n ≡ 0 → ⊥) → n ≡ 1
       one-of zero u d = absurd (d refl)
       one-of (suc n) u d = omega arith

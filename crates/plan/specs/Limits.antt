@@ -5,6 +5,7 @@
 --   Header b            record 0
 --   JunctionForm, BeltForm, RuleForm, LiteralForm b r
 --                       record r is one of that kind, with what the paper says of its fields
+--   ItemForm b r        record r is a belt, a rule or a literal, with what the paper says of it
 --   Kinds b             records 1 to J are junctions, those above are belts, rules and literals
 --   Leads b r i k       the index i, held by record r, is 0 or that of a later record of kind k
 --   Rising b            "an index in a chain or at its head is larger than that of the record holding it", and leads to its kind
@@ -18,7 +19,6 @@
 -- Assumes nothing.
 use Prim.Native.Nat.{ℕ, zero, suc, _*_, _≤_, _<_}
 use mathlib.Core.Path.{_≡_}
-use mathlib.Core.Logic.{_⊎_}
 use mathlib.Core.Bool.{Bool, true, false, not}
 use mathlib.Core.List.{List, [], _∷_, _++_, map, List·Memᴰ}
 use lib.ListN.{length}
@@ -65,9 +65,15 @@ pub record LiteralForm (b : List ℕ) (r : ℕ) : Type 0 where
   pub sort : field b r 3 ≤ 1
   pub zero-5 : field b r 5 ≡ 0
 
+-- a record that may stand above the junctions
+pub data ItemForm (b : List ℕ) (r : ℕ) : Type 0 where
+  is-belt : BeltForm b r → ItemForm b r
+  is-rule : RuleForm b r → ItemForm b r
+  is-literal : LiteralForm b r → ItemForm b r
+
 pub record Kinds (b : List ℕ) : Type 0 where
   pub low : (r : ℕ) → 1 ≤ r → r ≤ junctions b → JunctionForm b r
-  pub high : (r : ℕ) → junctions b < r → r < records b → BeltForm b r ⊎ (RuleForm b r ⊎ LiteralForm b r)
+  pub high : (r : ℕ) → junctions b < r → r < records b → ItemForm b r
 
 abbrev pub Leads : List ℕ → ℕ → ℕ → ℕ → Type 0
 Leads b r i k = (i ≡ 0 → ⊥) → (r < i) × (i < records b) × (kind b i ≡ k)

@@ -8,13 +8,14 @@ use crate::record::LITERAL;
 use crate::record::RULE;
 ghost use mathlib.Core.Path.{_≡_};
 ghost use mathlib.Core.Bool.{not};
+ghost use mathlib.Core.List.{[], _∷_};
 ghost use Prim.Native.Nat.{_*_, _<_, _≤_};
 ghost use lib.ListN.{length};
 ghost use Rattle.plan.specs.Lists.{any, upto};
-ghost use Rattle.plan.specs.Records.{kind, records, linkTo, linksAt, links};
+ghost use Rattle.plan.specs.Records.{records, linkTo, linksAt, links};
 ghost use Rattle.plan.specs.Refusals.{broken4};
 ghost use Rattle.plan.specs.Inner.{Passed2};
-ghost use Rattle.plan.specs.Inner.{bump, markedOnce, Followed};
+ghost use Rattle.plan.specs.Inner.{linksBy, bump, markedOnce, Followed};
 
 // The mark of a record to which one more link leads: 0 none, 1 one, 2 more than one.
 fn bump(mark: u8) -> u8
@@ -44,28 +45,52 @@ fn follow_index(p: &[u8], seen: &mut [u8], n: usize, r: usize, i: usize, want: u
     false
 }
 
-// Whether a chain index of record r, a rule, is wrong; marks the records that they lead to.
-fn follow_rule(p: &[u8], seen: &mut [u8], n: usize, r: usize) -> bool
-    requires { ⌜ (n ≡ records (now p)) × (12 * n ≤ length (now p)) × (n ≤ length (now seen)) × (r < n) × (kind (now p) r ≡ 3) ⌝ }
-    ensures { λ v. ⌜ Followed (now (p .entry)) (linksAt (now (p .entry)) r) (now (seen .entry)) (now (seen .exit)) v ⌝ }
+// A chain field: its number, and the kind of record that it leads to.
+struct Target(usize, u16);
+
+// Whether what record r holds in a chain field is wrong; marks the record that it leads to.
+fn follow_one(p: &[u8], seen: &mut [u8], n: usize, r: usize, t: Target) -> bool
+    requires { ⌜ (n ≡ records (now p))
+        × (12 * n ≤ length (now p))
+        × (n ≤ length (now seen))
+        × (r < n)
+        × (t .0 < 6) ⌝ }
+    ensures { λ v. ⌜ Followed (now (p .entry)) (linksBy (now (p .entry)) r ((t .0, t .1) ∷ [])) (now (seen .entry)) (now (seen .exit)) v ⌝ }
 {
-    if follow_index(p, seen, n, r, record::index(p, r, 1), RULE) {
-        return true;
-    }
-    follow_index(p, seen, n, r, record::index(p, r, 2), LITERAL)
+    follow_index(p, seen, n, r, record::index(p, r, t.0), t.1)
 }
 
-// Whether a chain index of record r is wrong, by its row of the table `rows`; marks the records that they lead to.
+// The same of two chain fields, one after the other.
+fn follow_two(p: &[u8], seen: &mut [u8], n: usize, r: usize, t: Target, u: Target) -> bool
+    requires { ⌜ (n ≡ records (now p))
+        × (12 * n ≤ length (now p))
+        × (n ≤ length (now seen))
+        × (r < n)
+        × (t .0 < 6)
+        × (u .0 < 6) ⌝ }
+    ensures { λ v. ⌜ Followed (now (p .entry)) (linksBy (now (p .entry)) r ((t .0, t .1) ∷ (u .0, u .1) ∷ [])) (now (seen .entry)) (now (seen .exit)) v ⌝ }
+{
+    if follow_one(p, seen, n, r, t) {
+        return true;
+    }
+    follow_one(p, seen, n, r, u)
+}
+
+// Whether a chain index of record r is wrong; marks the records that they lead to. Each arm has the chain fields of its row of the table `rows`:
+// to look them up by the kind made a check slower by a fifth or more.
 fn follow_record(p: &[u8], seen: &mut [u8], n: usize, r: usize) -> bool
-    requires { ⌜ (n ≡ records (now p)) × (12 * n ≤ length (now p)) × (n ≤ length (now seen)) × (r < n) ⌝ }
+    requires { ⌜ (n ≡ records (now p))
+        × (12 * n ≤ length (now p))
+        × (n ≤ length (now seen))
+        × (r < n) ⌝ }
     ensures { λ v. ⌜ Followed (now (p .entry)) (linksAt (now (p .entry)) r) (now (seen .entry)) (now (seen .exit)) v ⌝ }
 {
     match record::field(p, r, 0) {
-        HEADER => follow_index(p, seen, n, r, record::index(p, r, 3), RULE),
-        JUNCTION => follow_index(p, seen, n, r, record::index(p, r, 1), BELT),
-        BELT => follow_index(p, seen, n, r, record::index(p, r, 1), BELT),
-        RULE => follow_rule(p, seen, n, r),
-        LITERAL => follow_index(p, seen, n, r, record::index(p, r, 1), LITERAL),
+        HEADER => follow_one(p, seen, n, r, Target(3, RULE)),
+        JUNCTION => follow_one(p, seen, n, r, Target(1, BELT)),
+        BELT => follow_one(p, seen, n, r, Target(1, BELT)),
+        RULE => follow_two(p, seen, n, r, Target(1, RULE), Target(2, LITERAL)),
+        LITERAL => follow_one(p, seen, n, r, Target(1, LITERAL)),
         _ => false,
     }
 }

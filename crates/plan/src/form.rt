@@ -36,25 +36,27 @@ pub fn wrong_header(p: &[u8]) -> bool
         return true;
     }
     let junctions = record::field(p, 0, 1);
-    if !table::header_fits(p, 0) {
+    if !table::fits(p, junctions, HEADER, 0) {
         return true;
     }
     record::field(p, 0, 4) <= junctions
 }
 
-// Whether record r is of a kind that may stand at its place, and its unused and ranged fields are as that kind wants them.
+// Whether record r is of a kind that may stand at its place, and its unused and ranged fields are as that kind wants them. Each arm names its
+// kind, so that only the tests of this kind are left of `table::fits` there.
 fn right_record(p: &[u8], junctions: u16, r: usize) -> bool
-    requires { ⌜ (junctions ≡ field (now p) 0 1) × (12 * r + 12 ≤ length (now p)) ⌝ }
+    requires { ⌜ (junctions ≡ field (now p) 0 1)
+        × (12 * r + 12 ≤ length (now p)) ⌝ }
     ensures { λ v. ⌜ v ≡ (rightKind (now (p .entry)) r && fits (now (p .entry)) r) ⌝ }
 {
     let kind = record::field(p, r, 0);
     if r <= junctions as usize {
-        return kind == JUNCTION && table::junction_fits(p, r);
+        return kind == JUNCTION && table::fits(p, junctions, JUNCTION, r);
     }
     match kind {
-        BELT => table::belt_fits(p, junctions, r),
-        RULE => table::rule_fits(p, r),
-        LITERAL => table::literal_fits(p, r),
+        BELT => table::fits(p, junctions, BELT, r),
+        RULE => table::fits(p, junctions, RULE, r),
+        LITERAL => table::fits(p, junctions, LITERAL, r),
         _ => false,
     }
 }

@@ -19,15 +19,15 @@ decides p r k e = e ∙ ap (λ t. t && fits p r) (sym k)
 field-requires : tie.Need-field-requires
 field-requires c κs = search needs
 
-junction-fits-requires : tie.Need-junction-fits-requires
-junction-fits-requires c κs = search needs
+fits-requires : tie.Need-fits-requires
+fits-requires c κs = search needs
 
 returns : tie.Need-returns
 returns c =
     let first = c .before .before .before in
     let a = first .before .before .args in
     let k : kind (a .p .now) (a .r) ≡ 1 = sym (first .field .ensures) ∙ c .before .if2 .taken in
-    decides (a .p .now) (a .r) (kind-low (a .p .now) (a .r) (omega arith) ∙ rw k) (c .junction-fits .ensures)
+    decides (a .p .now) (a .r) (kind-low (a .p .now) (a .r) (omega arith) ∙ rw k) (c .fits2 .ensures)
 
 returns-2 : tie.Need-returns-2
 returns-2 c =
@@ -37,35 +37,35 @@ returns-2 c =
     let wrong : rightKind (a .p .now) (a .r) ≡ false = kind-low (a .p .now) (a .r) (omega arith) ∙ rw k in
     ne-eqb (first .field .result) 1 (c .if2 .left) ∙ sym (ap (λ t. t && fits (a .p .now) (a .r)) wrong)
 
-belt-fits-requires : tie.Need-belt-fits-requires
-belt-fits-requires c κs = search needs
+fits-requires-2 : tie.Need-fits-requires-2
+fits-requires-2 c κs = search needs
 
-rule-fits-requires : tie.Need-rule-fits-requires
-rule-fits-requires c κs = search needs
+fits-requires-3 : tie.Need-fits-requires-3
+fits-requires-3 c κs = search needs
 
-literal-fits-requires : tie.Need-literal-fits-requires
-literal-fits-requires c κs = search needs
+fits-requires-4 : tie.Need-fits-requires-4
+fits-requires-4 c κs = search needs
 
 returns-3 : tie.Need-returns-3
 returns-3 c =
     let first = c .before .before .before in
     let a = first .before .before .args in
     let k : kind (a .p .now) (a .r) ≡ 2 = sym (first .field .ensures) ∙ c .before .match .keys1 in
-    decides (a .p .now) (a .r) (kind-high (a .p .now) (a .r) (omega arith) ∙ rw k) (c .belt-fits .ensures)
+    decides (a .p .now) (a .r) (kind-high (a .p .now) (a .r) (omega arith) ∙ rw k) (c .fits3 .ensures)
 
 returns-4 : tie.Need-returns-4
 returns-4 c =
     let first = c .before .before .before in
     let a = first .before .before .args in
     let k : kind (a .p .now) (a .r) ≡ 3 = sym (first .field .ensures) ∙ c .before .match .keys2 in
-    decides (a .p .now) (a .r) (kind-high (a .p .now) (a .r) (omega arith) ∙ rw k) (c .rule-fits .ensures)
+    decides (a .p .now) (a .r) (kind-high (a .p .now) (a .r) (omega arith) ∙ rw k) (c .fits4 .ensures)
 
 returns-5 : tie.Need-returns-5
 returns-5 c =
     let first = c .before .before .before in
     let a = first .before .before .args in
     let k : kind (a .p .now) (a .r) ≡ 4 = sym (first .field .ensures) ∙ c .before .match .keys3 in
-    decides (a .p .now) (a .r) (kind-high (a .p .now) (a .r) (omega arith) ∙ rw k) (c .literal-fits .ensures)
+    decides (a .p .now) (a .r) (kind-high (a .p .now) (a .r) (omega arith) ∙ rw k) (c .fits5 .ensures)
 
 returns-6 : tie.Need-returns-6
 returns-6 c =
@@ -84,12 +84,12 @@ right-record-spec =
     tie.close
     (tie.spec
     field-requires
-    junction-fits-requires
+    fits-requires
     returns
     returns-2
-    belt-fits-requires
-    rule-fits-requires
-    literal-fits-requires
+    fits-requires-2
+    fits-requires-3
+    fits-requires-4
     returns-3
     returns-4
     returns-5

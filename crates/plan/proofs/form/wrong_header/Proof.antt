@@ -28,16 +28,16 @@ returns c = rw (ne-eqb _ 7 (λ e. c .if1 .taken (c .before .field .ensures ∙ e
 field-requires-2 : tie.Need-field-requires-2
 field-requires-2 c κs = (omega arith, room _ (c .before .before .before .pre))
 
-header-fits-requires : tie.Need-header-fits-requires
-header-fits-requires c κs =
+fits-requires : tie.Need-fits-requires
+fits-requires c κs =
     let first = c .before in
-    (sym (first .before .field .ensures) ∙ first .if1 .left, room _ (first .before .before .before .pre))
+    (c .field2 .ensures, sym (first .if1 .left) ∙ first .before .field .ensures, room _ (first .before .before .before .pre))
 
 returns-2 : tie.Need-returns-2
 unfolding broken2
 returns-2 c =
     let first = c .before .before .before in
-    rw (eq-eqb _ 7 (sym (first .before .field .ensures) ∙ first .if1 .left), ← c .before .header-fits .ensures, not-true (c .before .header-fits .result) (c .if2 .taken))
+    rw (eq-eqb _ 7 (sym (first .before .field .ensures) ∙ first .if1 .left), ← c .before .fits2 .ensures, not-true (c .before .fits2 .result) (c .if2 .taken))
 
 field-requires-3 : tie.Need-field-requires-3
 field-requires-3 c κs = (omega arith, room _ (c .before .before .before .before .before .before .pre))
@@ -46,10 +46,10 @@ returns-3 : tie.Need-returns-3
 unfolding broken2
 returns-3 c =
     let first = c .before .before .before .before in
-    rw (eq-eqb _ 7 (sym (first .before .field .ensures) ∙ first .if1 .left), ← c .before .before .header-fits .ensures, not-false (c .before .before .header-fits .result) (c .before .if2 .left))
+    rw (eq-eqb _ 7 (sym (first .before .field .ensures) ∙ first .if1 .left), ← c .before .before .fits2 .ensures, not-false (c .before .before .fits2 .result) (c .before .if2 .left))
     (leb-not (c .field3 .result) (c .before .before .before .field2 .result) ∙ (λ i. not (ltb (c .before .before .before .field2 .ensures i) (c .field3 .ensures i))))
 
 pub wrong-header-spec : {M : Type 1} → statement M
 wrong-header-spec =
     tie.close
-    (tie.spec field-requires returns field-requires-2 header-fits-requires returns-2 field-requires-3 returns-3)
+    (tie.spec field-requires returns field-requires-2 fits-requires returns-2 field-requires-3 returns-3)
