@@ -1,6 +1,7 @@
 -- The links that a record holds, out of the table `rows`; and what lines 1 to 4 say of all links together.
 --
---   targets b k              the chain fields of a record of kind k
+--   targetsOf row            the chain fields of a row of the table in their order, each with the kind of record that it leads to (targetBy)
+--   targets b k              those of a record of kind k
 --   linksAt-by               the links of a record are those of its chain fields; in-linksAt, linksAt-in: a link among them
 --   one-link, two-links      the links of one chain field and of two
 --   no-targets               a kind that is not in the table has no chain fields
@@ -21,11 +22,20 @@ use Rattle.plan.specs.Lists.{kept, keep, mem, joined, upto}
 use Rattle.plan.specs.Records.{field, kind, junctions, records, Use, Any, Unused, Between, Chain, Row, rows, rowOf, rowAt, useAt, fields, Link, linkTo, linkBy, linksAt, links}
 use Rattle.plan.specs.Refusals.{pointers}
 use Rattle.plan.specs.Limits.{chainFields, held}
-use Rattle.plan.specs.Inner.{targetBy, targetsOf, linksBy}
+use Rattle.plan.specs.Inner.{linksBy}
 use Rattle.plan.proofs.Lists.{test, neither, each, joined-append, in-joined, joined-in, in-upto, upto-in, mem-in}
 use Rattle.plan.proofs.Forms.{kinds, no-row, Item}
 
 -- ---- the links of a record, by its chain fields
+
+abbrev pub targetBy : Use → ℕ → List (ℕ × ℕ)
+targetBy Any f = []
+targetBy Unused f = []
+targetBy (Between a z) f = []
+targetBy (Chain k) f = (f, k) ∷ []
+
+abbrev pub targetsOf : Row → List (ℕ × ℕ)
+targetsOf row = joined (λ (f : ℕ). targetBy (useAt row f) f) fields
 
 -- a field by its use
 by-use : (b : List ℕ) (r f : ℕ) (u : Use) → linkBy u r (field b r f) ≡ linksBy b r (targetBy u f)

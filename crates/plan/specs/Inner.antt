@@ -3,9 +3,7 @@
 --
 --   Passed2, Passed4, Passed6 b
 --                         no line up to line 2, 4 or 6 is broken
---   targetBy u f          the chain field that field f is by its use u, if it is one: the field, and the kind of record that it leads to
---   targetsOf row         the chain fields of a row of the table, in their order
---   linksBy b r ts        the links that record r holds in the chain fields ts
+--   linksBy b r ts        the links that record r holds in the chain fields ts, each a field and the kind of record that it leads to
 --   bump m                the mark of a record to which one more link leads: 0 none, 1 one, 2 more than one
 --   mark seen i           the marks with that of record i so raised
 --   marked seen ls        the marks `seen` after the links ls have been followed
@@ -26,7 +24,7 @@ use mathlib.Core.List.{List, [], _∷_}
 use lib.ListN.{getD, set, replicate}
 use lib.Dec.{eqb}
 use Rattle.plan.specs.Lists.{any, joined, upto}
-use Rattle.plan.specs.Records.{field, kind, junctions, records, Use, Any, Unused, Between, Chain, Row, useAt, fields, Link, linkTo}
+use Rattle.plan.specs.Records.{field, kind, junctions, records, Link, linkTo}
 use Rattle.plan.specs.Refusals.{badLink, broken1, broken2, broken3, broken4, broken5, broken6}
 
 -- no line is broken up to line 2, 4 or 6
@@ -38,15 +36,6 @@ Passed4 b = Passed2 b × (broken3 b ≡ false) × (broken4 b ≡ false)
 
 abbrev pub Passed6 : List ℕ → Type 0
 Passed6 b = Passed4 b × (broken5 b ≡ false) × (broken6 b ≡ false)
-
-abbrev pub targetBy : Use → ℕ → List (ℕ × ℕ)
-targetBy Any f = []
-targetBy Unused f = []
-targetBy (Between a z) f = []
-targetBy (Chain k) f = (f, k) ∷ []
-
-abbrev pub targetsOf : Row → List (ℕ × ℕ)
-targetsOf row = joined (λ (f : ℕ). targetBy (useAt row f) f) fields
 
 abbrev pub linksBy : List ℕ → ℕ → List (ℕ × ℕ) → List Link
 linksBy b r ts = joined (λ (t : ℕ × ℕ). linkTo r (field b r (t .0)) (t .1)) ts
