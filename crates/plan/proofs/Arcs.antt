@@ -29,6 +29,7 @@ use lib.ListN.{length, getD, take, drop, set, replicate, length-append, length-m
 use lib.Seq.{take-at, drop-at, drop-append-add, set-at, append-snoc}
 use lib.Dec.{eqb, leb}
 use borrow.Author.Tests.{eqb-true, leb-true, leb-false}
+use Rattle.plan.specs.Bounds.{maxJunctions, maxRecords}
 use Rattle.plan.specs.Lists.{counted, count, run, upto}
 use Rattle.plan.specs.Records.{kind, junctions, records}
 use Rattle.plan.specs.Plan.{Belt, Plan, planOf, beltAt, beltRecords, leaving}
@@ -106,7 +107,7 @@ module _ {b : List ℕ} (ok : Accepted b) where
   order-most : (u : ℕ) → length (inOrder (planOf b) u) ≤ records b - suc (junctions b)
   order-most u = omega (arith, order-count (planOf b) u, count-few (λ (e : Belt). leb (e .leaves) u) (planOf b .belts), belts-few)
 
-  pub order-few : (u : ℕ) → length (inOrder (planOf b) u) < 2048
+  pub order-few : (u : ℕ) → length (inOrder (planOf b) u) < maxRecords
   order-few u = omega (arith, order-most u, few b (accepted-passed b (ok .unrefused) .0 .0 .0 .0))
 
   pub order-fit : (u : ℕ) → length (inOrder (planOf b) u) ≤ records b
@@ -123,7 +124,7 @@ module _ {b : List ℕ} (ok : Accepted b) where
       let n = suc (p .junctions) - 0 in
       let size = length-map (run 0 n) ends ∙ length-run 0 n in
       let e : 0 + u ≡ u = omega arith in
-      List·getD-append (map ends (run 0 n)) (replicate (256 - p .junctions) 0) 0 u (omega arith) ∙ getD-run ends 0 n u 0 (omega arith) ∙ ap ends e
+      List·getD-append (map ends (run 0 n)) (replicate (maxJunctions - p .junctions) 0) 0 u (omega arith) ∙ getD-run ends 0 n u 0 (omega arith) ∙ ap ends e
 
   pub arcs-fit : (n : ℕ) → length (arcsIn n (planOf b)) ≡ n → (u : ℕ) → u ≤ planOf b .junctions → length (inOrder (planOf b) u) ≤ n
   unfolding arcsIn
@@ -157,7 +158,7 @@ abbrev pub arcsTo : ℕ → Plan → ℕ → List ℕ
 arcsTo n p u = map arcOf (inOrder p u) ++ replicate (n - length (inOrder p u)) 0
 
 abbrev pub endsTo : Plan → ℕ → List ℕ
-endsTo p u = map (λ (v : ℕ). length (inOrder p v)) (run 0 (suc u)) ++ replicate (256 - u) 0
+endsTo p u = map (λ (v : ℕ). length (inOrder p v)) (run 0 (suc u)) ++ replicate (maxJunctions - u) 0
 
 -- the last of a run
 map-last : (f : ℕ → ℕ) (n : ℕ) → map f (run 0 (suc n)) ≡ map f (run 0 n) ++ (f n ∷ [])
@@ -205,15 +206,15 @@ module _ (n : ℕ) (p : Plan) where
   arcs-all = refl
 
 module _ (p : Plan) where
-  pub ends-none : replicate 257 0 ≡ endsTo p 0
+  pub ends-none : replicate (suc maxJunctions) 0 ≡ endsTo p 0
   ends-none = refl
 
-  pub ends-more : (u : ℕ) → u < 256 → set (endsTo p u) (suc u) (length (inOrder p (suc u))) ≡ endsTo p (suc u)
+  pub ends-more : (u : ℕ) → u < maxJunctions → set (endsTo p u) (suc u) (length (inOrder p (suc u))) ≡ endsTo p (suc u)
   ends-more u h =
       let ends : ℕ → ℕ = λ (v : ℕ). length (inOrder p v) in
       let low = map ends (run 0 (suc u)) in
-      let rest = replicate {A = ℕ} (256 - suc u) 0 in
-      let one : 256 - u ≡ suc (256 - suc u) = omega arith in
+      let rest = replicate {A = ℕ} (maxJunctions - suc u) 0 in
+      let one : maxJunctions - u ≡ suc (maxJunctions - suc u) = omega arith in
       ap (λ (n : ℕ). set (low ++ replicate n 0) (suc u) (ends (suc u))) one
       ∙ set-at low 0 rest (ends (suc u)) (suc u) (length-map (run 0 (suc u)) ends ∙ length-run 0 (suc u))
       ∙ sym (append-snoc low (ends (suc u)) rest)
@@ -223,7 +224,7 @@ module _ (p : Plan) where
   unfolding endsOf
   ends-all =
       let e : suc (p .junctions) ≡ suc (p .junctions) - 0 = omega arith in
-      ap (λ (n : ℕ). map (λ (v : ℕ). length (inOrder p v)) (run 0 n) ++ replicate (256 - p .junctions) 0) e
+      ap (λ (n : ℕ). map (λ (v : ℕ). length (inOrder p v)) (run 0 n) ++ replicate (maxJunctions - p .junctions) 0) e
 
 -- ---- how much room there has to be
 
@@ -234,5 +235,5 @@ module _ {b : List ℕ} (ok : Accepted b) where
       let size : length (arcsIn n p) ≡ n = ap length (sym (arcs-all n p)) ∙ length-arcs n p (p .junctions) (omega (arith, order-fit ok (p .junctions))) in
       e ∙ sym (ap (λ (m : ℕ). arcsIn m p) (ap length e ∙ size))
 
-  pub records-few : (records b ≤ 2048) × (length b ≡ 12 * records b)
+  pub records-few : (records b ≤ maxRecords) × (length b ≡ 12 * records b)
   records-few = let one = accepted-passed b (ok .unrefused) .0 .0 .0 .0 in (few b one, sized b one .whole)

@@ -20,6 +20,7 @@ use native.Mathlib.Omega.{arith}
 use lib.ListN.{length}
 use lib.Dec.{eqb, ltb}
 use borrow.Author.Tests.{eqb-true, eq-eqb, ltb-true, lt-ltb, le-leb, lt-leb, not-false}
+use Rattle.plan.specs.Bounds.{maxPlanBytes, maxRecords, minPlanBytes}
 use Rattle.plan.specs.Lists.{any, all, within, mem}
 use Rattle.plan.specs.Records.{field, kind, junctions, records, Use, Any, Unused, Between, Chain, Row, Entry, rows, chosen, rowIn, rowOf, rowAt, useAt, fields, allows, fits}
 use Rattle.plan.specs.Refusals.{broken1, broken2, kindsBy, rightKind}
@@ -104,19 +105,19 @@ other-fits b r k e h =
 -- ---- line 1
 
 pub record Sized (b : List ℕ) : Type 0 where
-  pub least : 24 ≤ length b
-  pub most : length b ≤ 24576
+  pub least : minPlanBytes ≤ length b
+  pub most : length b ≤ maxPlanBytes
   pub whole : length b ≡ 12 * records b
 
 pub sized : (b : List ℕ) → broken1 b ≡ false → Sized b
 unfolding broken1
 sized b h =
-    let k = both (within 24 (length b) 24576) (eqb (length b) (12 * records b)) (not-false _ h) in
-    let w = within-is 24 (length b) 24576 (k .0) in
+    let k = both (within minPlanBytes (length b) maxPlanBytes) (eqb (length b) (12 * records b)) (not-false _ h) in
+    let w = within-is minPlanBytes (length b) maxPlanBytes (k .0) in
     record { least = w .0; most = w .1; whole = eqb-true (length b) (12 * records b) (k .1) }
 
 -- there are at most 2,048 records, and each of them is there
-pub few : (b : List ℕ) → broken1 b ≡ false → records b ≤ 2048
+pub few : (b : List ℕ) → broken1 b ≡ false → records b ≤ maxRecords
 few b h = let s = sized b h in omega arith
 
 pub there : (b : List ℕ) → broken1 b ≡ false → (r : ℕ) → r < records b → 12 * r + 12 ≤ length b
@@ -124,7 +125,7 @@ there b h r l = let s = sized b h in omega arith
 
 pub size-fits : (b : List ℕ) → Sized b → broken1 b ≡ false
 unfolding broken1
-size-fits b s = ap not (and-is (within 24 (length b) 24576) (eqb (length b) (12 * records b)) (is-within 24 (length b) 24576 (s .least) (s .most)) (eq-eqb (length b) (12 * records b) (s .whole)))
+size-fits b s = ap not (and-is (within minPlanBytes (length b) maxPlanBytes) (eqb (length b) (12 * records b)) (is-within minPlanBytes (length b) maxPlanBytes (s .least) (s .most)) (eq-eqb (length b) (12 * records b) (s .whole)))
 
 -- ---- line 2
 

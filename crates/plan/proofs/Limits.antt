@@ -17,6 +17,7 @@ use native.Mathlib.Omega.{arith}
 use lib.ListN.{length}
 use lib.Dec.{eqb, leb}
 use borrow.Author.Tests.{eqb-true, le-ltb, leb-true, leb-false, lt-leb}
+use Rattle.plan.specs.Bounds.{maxNamed}
 use Rattle.plan.specs.Lists.{mem, upto, count}
 use Rattle.plan.specs.Records.{field, kind, junctions, records, rowOf, fits, Link, links, chain}
 use Rattle.plan.specs.Plan.{Belt, planOf, named, beltAt}
@@ -236,7 +237,7 @@ pub limits-accepted : (b : List ℕ) → Limits b → refusal b ≡ 0
 unfolding broken7
 limits-accepted b l =
     let h = forms-passed b l in
-    passed-accepted b (h, higher-unbroken b (linked b h) (l .higher), names-unbroken b (l .kinds) (l .literals)) (le-ltb 48 (length (named (planOf b))) (l .few-named))
+    passed-accepted b (h, higher-unbroken b (linked b h) (l .higher), names-unbroken b (l .kinds) (l .literals)) (le-ltb maxNamed (length (named (planOf b))) (l .few-named))
 
 pub accepted-limits : (b : List ℕ) → refusal b ≡ 0 → Limits b
 unfolding broken7

@@ -24,6 +24,7 @@ use lib.ListN.{length, getD, set, replicate, length-set, length-replicate, getD-
 use lib.Seq.{getD-set-same, getD-set-other}
 use lib.Dec.{eqb}
 use borrow.Author.Tests.{eqb-true, eqb-false, eq-eqb, ltb-false}
+use Rattle.plan.specs.Bounds.{maxNamed, maxRecords}
 use Rattle.plan.specs.Lists.{any, keep, counted, count, upto}
 use Rattle.plan.specs.Records.{IsKind, field, kind, junctions, records, chain}
 use Rattle.plan.specs.Plan.{Belt, Plan, beltAt, beltRecords, literalBy, literalAt, ruleAt, planOf, names, inRule, named}
@@ -62,9 +63,9 @@ length-noted : (b marks ls : List ℕ) → length (noted b marks ls) ≡ length 
 length-noted b marks [] = refl
 length-noted b marks (l ∷ ls) = length-noted b (note (namesBelt b l) marks (field b l 4)) ls ∙ length-note (namesBelt b l) marks (field b l 4)
 
-pub length-notes : (b : List ℕ) → length (notes b) ≡ 2048
+pub length-notes : (b : List ℕ) → length (notes b) ≡ maxRecords
 unfolding notes
-length-notes b = length-noted b (replicate 2048 0) (upto (suc (junctions b)) (records b)) ∙ length-replicate {A = ℕ} 2048 0
+length-notes b = length-noted b (replicate maxRecords 0) (upto (suc (junctions b)) (records b)) ∙ length-replicate {A = ℕ} maxRecords 0
 
 -- record l is a literal of belt e
 abbrev pub namesAt : List ℕ → ℕ → ℕ → Bool
@@ -101,18 +102,18 @@ marks-at b marks e (l ∷ ls) h =
 abbrev pub someNames : List ℕ → ℕ → Bool
 someNames b e = any (namesAt b e) (upto (suc (junctions b)) (records b))
 
-noted-at : (b : List ℕ) (e : ℕ) → e < 2048 → getD (notes b) e 0 ≡ counted (someNames b e) 0
+noted-at : (b : List ℕ) (e : ℕ) → e < maxRecords → getD (notes b) e 0 ≡ counted (someNames b e) 0
 unfolding notes
 noted-at b e h =
-    marks-at b (replicate 2048 0) e (upto (suc (junctions b)) (records b)) (omega (arith, length-replicate {A = ℕ} 2048 0))
-    ∙ ap (setBy (someNames b e)) (getD-replicate {A = ℕ} 2048 e 0 0 h)
+    marks-at b (replicate maxRecords 0) e (upto (suc (junctions b)) (records b)) (omega (arith, length-replicate {A = ℕ} maxRecords 0))
+    ∙ ap (setBy (someNames b e)) (getD-replicate {A = ℕ} maxRecords e 0 0 h)
     ∙ same (someNames b e)
   where
     same : (t : Bool) → setBy t 0 ≡ counted t 0
     same true = refl
     same false = refl
 
-once-at : (b : List ℕ) (e : ℕ) → e < 2048 → markedOnce (notes b) e ≡ someNames b e
+once-at : (b : List ℕ) (e : ℕ) → e < maxRecords → markedOnce (notes b) e ≡ someNames b e
 once-at b e h = ap (λ (m : ℕ). eqb m 1) (noted-at b e h) ∙ same (someNames b e)
   where
     same : (t : Bool) → eqb (counted t 0) 1 ≡ t
@@ -121,9 +122,9 @@ once-at b e h = ap (λ (m : ℕ). eqb m 1) (noted-at b e h) ∙ same (someNames 
 
 -- ---- line 7
 
-pub few-named : (b : List ℕ) → broken7 b ≡ false → length (named (planOf b)) ≤ 48
+pub few-named : (b : List ℕ) → broken7 b ≡ false → length (named (planOf b)) ≤ maxNamed
 unfolding broken7
-few-named b h = ltb-false 48 (length (named (planOf b))) h
+few-named b h = ltb-false maxNamed (length (named (planOf b))) h
 
 -- ---- the named belts of any plan
 
@@ -227,7 +228,7 @@ module _ (b : List ℕ) (h : Passed6 b) where
   named-count = ap length named-marks ∙ length-keep (markedOnce (notes b)) (upto 0 (records b))
 
   -- what the code has marked below n
-  pub kept-named : (marks : List ℕ) (n : ℕ) → marks ≡ noted b (replicate 2048 0) (upto (suc (junctions b)) (records b)) → n ≡ records b
+  pub kept-named : (marks : List ℕ) (n : ℕ) → marks ≡ noted b (replicate maxRecords 0) (upto (suc (junctions b)) (records b)) → n ≡ records b
       → keep (markedOnce marks) (upto 0 n) ≡ named (planOf b)
   unfolding notes
   kept-named marks n p q = (λ i. keep (markedOnce (p i)) (upto 0 (q i))) ∙ sym named-marks

@@ -22,6 +22,7 @@ use lib.ListN.{length, getD, drop, set, replicate, length-set, length-map, lengt
 use lib.Seq.{getD-set-same, getD-set-other, sets, sets-eq}
 use lib.Dec.{eqb, ltb}
 use borrow.Author.Tests.{eqb-true, eqb-false, ne-eqb, lt-ltb, le-ltb}
+use Rattle.plan.specs.Bounds.{maxNamed, maxRecords}
 use Rattle.plan.specs.declared.named.Place.{Place}
 use Rattle.plan.specs.declared.named.Place.the-variants.{At, Unnamed}
 use Rattle.plan.specs.Lists.{counted, count, mem, run}
@@ -47,13 +48,13 @@ stored n a vs h =
     sets-eq vs (replicate n a) 0 (omega arith) ∙ ap (λ (l : List _). vs ++ l) (drop-replicate (0 + length vs) n a ∙ ap (λ (m : ℕ). replicate m a) e)
 
 -- the array has 48 places, and the first of them hold the named belts
-pub length-listed : (ns : List ℕ) → length ns ≤ 48 → length (listed ns) ≡ 48
+pub length-listed : (ns : List ℕ) → length ns ≤ maxNamed → length (listed ns) ≡ maxNamed
 length-listed ns h =
-    omega (arith, length-append (map beltId ns) (replicate (48 - length ns) (beltId 0)), length-map ns beltId, length-replicate (48 - length ns) (beltId 0))
+    omega (arith, length-append (map beltId ns) (replicate (maxNamed - length ns) (beltId 0)), length-map ns beltId, length-replicate (maxNamed - length ns) (beltId 0))
 
 pub listed-at : (ns : List ℕ) (k : ℕ) → k < length ns → getD (listed ns) k (beltId 0) ≡ beltId (getD ns k 0)
 listed-at ns k h =
-    List·getD-append (map beltId ns) (replicate (48 - length ns) (beltId 0)) (beltId 0) k (omega (arith, length-map ns beltId)) ∙ List·getD-map beltId ns k 0
+    List·getD-append (map beltId ns) (replicate (maxNamed - length ns) (beltId 0)) (beltId 0) k (omega (arith, length-map ns beltId)) ∙ List·getD-map beltId ns k 0
 
 pub ids-sets : (n : ℕ) (es : List ℕ) → length es ≤ n
     → sets (replicate n (beltId 0)) 0 (map beltId es) ≡ map beltId es ++ replicate (n - length es) (beltId 0)
@@ -61,8 +62,8 @@ ids-sets n es h =
     let size = length-map es beltId in
     stored n (beltId 0) (map beltId es) (omega arith) ∙ ap (λ (m : ℕ). map beltId es ++ replicate (n - m) (beltId 0)) size
 
-pub listed-sets : (ns : List ℕ) → length ns ≤ 48 → sets (replicate 48 (beltId 0)) 0 (map beltId ns) ≡ listed ns
-listed-sets = ids-sets 48
+pub listed-sets : (ns : List ℕ) → length ns ≤ maxNamed → sets (replicate maxNamed (beltId 0)) 0 (map beltId ns) ≡ listed ns
+listed-sets = ids-sets maxNamed
 
 -- ---- lists that rise
 
@@ -165,9 +166,9 @@ numbered-codes size ns r =
     ∙ code-by (mem e ns) lower
     ∙ ap (codeOf ns) same)
 
-pub numbered-places : (ns : List ℕ) → Rises ns → numbered (replicate 2048 0) 0 ns ≡ placesOf ns
+pub numbered-places : (ns : List ℕ) → Rises ns → numbered (replicate maxRecords 0) 0 ns ≡ placesOf ns
 unfolding placesOf
-numbered-places ns r = numbered-codes 2048 ns r
+numbered-places ns r = numbered-codes maxRecords ns r
 
 -- ---- reading it
 
@@ -175,8 +176,8 @@ code-back : (p : Place) → codePlace (placeCode p) ≡ p
 code-back (At k) = refl
 code-back Unnamed = refl
 
-pub place-is : (ns : List ℕ) (e : ℕ) → e < 2048 → placeIn (placesOf ns) e ≡ placeOf ns e
+pub place-is : (ns : List ℕ) (e : ℕ) → e < maxRecords → placeIn (placesOf ns) e ≡ placeOf ns e
 unfolding placesOf
 place-is ns e h =
     let same : 0 + e ≡ e = omega arith in
-    ap codePlace (getD-run (codeOf ns) 0 2048 e 0 h ∙ ap (codeOf ns) same) ∙ code-back (placeOf ns e)
+    ap codePlace (getD-run (codeOf ns) 0 maxRecords e 0 h ∙ ap (codeOf ns) same) ∙ code-back (placeOf ns e)

@@ -37,6 +37,7 @@ use native.Mathlib.Omega.{arith}
 use lib.ListN.{length}
 use lib.Dec.{eqb}
 use borrow.Author.Tests.{eqb-true, eqb-false, eq-eqb}
+use Rattle.plan.specs.Bounds.{maxJunctions, maxModes, maxNamed, maxRecords}
 use Rattle.plan.specs.declared.read.BeltId.{BeltId}
 use Rattle.plan.specs.declared.read.ModeId.{ModeId}
 use Rattle.plan.specs.declared.read.Literal.{Literal}
@@ -82,7 +83,7 @@ module _ {b : List ℕ} (ok : Accepted b) where
   limits : Limits b
   limits = accepted-limits b (ok .unrefused)
 
-  pub plan-sizes : (1 ≤ planOf b .junctions) × (planOf b .junctions ≤ 256) × (planOf b .modes ≤ 10)
+  pub plan-sizes : (1 ≤ planOf b .junctions) × (planOf b .junctions ≤ maxJunctions) × (planOf b .modes ≤ maxModes)
   unfolding planOf
   plan-sizes = let top = limits .header in (top .some-junctions, top .few-junctions, top .few-modes)
 
@@ -205,7 +206,7 @@ module _ {b : List ℕ} (ok : Accepted b) where
   pub belt-leaving : (x : Belt) → List·Memᴰ x (planOf b .belts) → List·Memᴰ x (leaving (planOf b) (x .leaves))
   belt-leaving x m = in-leaving (planOf b) (x .leaves) x m refl
 
-  pub belt-low : (e : ℕ) → IsBelt b e → (planOf b .junctions < e) × (e < records b) × (e < 2048)
+  pub belt-low : (e : ℕ) → IsBelt b e → (planOf b .junctions < e) × (e < records b) × (e < maxRecords)
   unfolding planOf
   belt-low e o = (above links belts e o, o .0, omega (arith, o .0, limits .sizes .few))
 
@@ -245,5 +246,5 @@ module _ {b : List ℕ} (ok : Accepted b) where
       one-of zero u d = absurd (d refl)
       one-of (suc n) u d = omega arith
 
-  pub named-few : length (named (planOf b)) ≤ 48
+  pub named-few : length (named (planOf b)) ≤ maxNamed
   named-few = limits .few-named

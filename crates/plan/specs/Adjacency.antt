@@ -4,7 +4,7 @@
 --   arcOf e         a belt in one number: its cost, where it leads, and its name; arcCost, arcHead, arcName: its parts
 --   inOrder p u     the belts that leave junctions 1 to u: junction by junction, those of each in rising index
 --   arcsIn n p      all belts in this order, as an array of n such numbers, the rest of it 0
---   endsOf p        how many belts leave junctions 1 to u, for each u from 0 on, as an array of 257: the belts of junction u stand in arcsIn from
+--   endsOf p        how many belts leave junctions 1 to u, for each u from 0 on, as an array of maxJunctions + 1: the belts of junction u stand in arcsIn from
 --                   place (endsOf u - 1) on and before place (endsOf u); the rest of it is 0
 --
 -- Assumes nothing.
@@ -12,6 +12,7 @@ use Prim.Native.Nat.{ℕ, zero, suc, _+_, _*_, _-_, _/_, _%_}
 use mathlib.Core.List.{List, [], _++_, map}
 use lib.ListN.{length, replicate}
 use Rattle.plan.specs.Lists.{upto}
+use Rattle.plan.specs.Bounds.{maxJunctions}
 use Rattle.plan.specs.Plan.{Belt, Plan, leaving}
 
 abbrev pub arcOf : Belt → ℕ
@@ -34,4 +35,4 @@ unfoldable pub arcsIn : ℕ → Plan → List ℕ
 arcsIn n p = map arcOf (inOrder p (p .junctions)) ++ replicate (n - length (inOrder p (p .junctions))) 0
 
 unfoldable pub endsOf : Plan → List ℕ
-endsOf p = map (λ (u : ℕ). length (inOrder p u)) (upto 0 (suc (p .junctions))) ++ replicate (256 - p .junctions) 0
+endsOf p = map (λ (u : ℕ). length (inOrder p u)) (upto 0 (suc (p .junctions))) ++ replicate (maxJunctions - p .junctions) 0

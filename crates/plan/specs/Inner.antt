@@ -14,7 +14,7 @@
 --   namesBelt b l         record l is a literal of a belt
 --   note t marks e        the marks with belt e marked, where t says so
 --   noted b marks ls      the marks after the belts that the records ls name have been marked
---   notes b               those of the whole plan, in an array of 2,048
+--   notes b               those of the whole plan, in an array of maxRecords places
 --
 -- Assumes nothing.
 use mathlib.Core.Path.{_≡_}
@@ -24,6 +24,7 @@ use mathlib.Core.List.{List, [], _∷_}
 use lib.ListN.{getD, set, replicate}
 use lib.Dec.{eqb}
 use Rattle.plan.specs.Lists.{any, joined, upto}
+use Rattle.plan.specs.Bounds.{maxRecords}
 use Rattle.plan.specs.Records.{field, kind, junctions, records, Link, linkTo}
 use Rattle.plan.specs.Refusals.{badLink, broken1, broken2, broken3, broken4, broken5, broken6}
 
@@ -69,4 +70,4 @@ noted b marks [] = marks
 noted b marks (l ∷ ls) = noted b (note (namesBelt b l) marks (field b l 4)) ls
 
 unfoldable pub notes : List ℕ → List ℕ
-notes b = noted b (replicate 2048 0) (upto (suc (junctions b)) (records b))
+notes b = noted b (replicate maxRecords 0) (upto (suc (junctions b)) (records b))

@@ -1,5 +1,6 @@
 -- In the order in which to read them. `Inner` is for the contracts of private functions alone.
 pub mod Lists
+pub mod Bounds
 pub mod Records
 pub mod Plan
 pub mod Refusals

@@ -1,7 +1,7 @@
 -- The published limits, in the positive words of paper 01's "Plan bytes": what a plan has to be.
 -- Nothing here goes by the refusal table or by the table of records that its lines go by; that they agree is a theorem (Claims.antt).
 --
---   Sizes b             a run of N 12-byte records, at most 2,048
+--   Sizes b             a run of N records, at most maxRecords (Bounds.antt)
 --   Header b            record 0
 --   JunctionForm, BeltForm, RuleForm, LiteralForm b r
 --                       record r is one of that kind, with what the paper says of its fields
@@ -24,18 +24,19 @@ use mathlib.Core.List.{List, [], _∷_, _++_, map, List·Memᴰ}
 use lib.ListN.{length}
 use lib.Dec.{eqb}
 use Rattle.plan.specs.Lists.{keep, count, joined, upto}
+use Rattle.plan.specs.Bounds.{recordBytes, maxRecords, maxJunctions, maxModes, maxNamed}
 use Rattle.plan.specs.Records.{field, kind, junctions, modes, records}
 use Rattle.plan.specs.Plan.{Belt, planOf, named}
 
 pub record Sizes (b : List ℕ) : Type 0 where
-  pub whole : length b ≡ 12 * records b
-  pub few : records b ≤ 2048
+  pub whole : length b ≡ recordBytes * records b
+  pub few : records b ≤ maxRecords
 
 pub record Header (b : List ℕ) : Type 0 where
   pub kind-7 : kind b 0 ≡ 7
   pub some-junctions : 1 ≤ junctions b
-  pub few-junctions : junctions b ≤ 256
-  pub few-modes : modes b ≤ 10
+  pub few-junctions : junctions b ≤ maxJunctions
+  pub few-modes : modes b ≤ maxModes
   pub unused : field b 0 5 ≡ 0
   pub room : junctions b < records b
 
@@ -123,4 +124,4 @@ pub record Limits (b : List ℕ) : Type 0 where
   pub once : (r : ℕ) → junctions b < r → r < records b → count (eqb r) (reached b) ≡ 1
   pub higher : (e : Belt) → List·Memᴰ e (planOf b .belts) → e .leaves < e .leads
   pub literals : (l : ℕ) → l < records b → kind b l ≡ 4 → Names b l
-  pub few-named : length (named (planOf b)) ≤ 48
+  pub few-named : length (named (planOf b)) ≤ maxNamed

@@ -12,9 +12,9 @@
 --   names e l       literal l is about belt e; inRule e rule: some literal of the rule is
 --   named p         the belts in some rule (paper 01's "named belts"), in rising index, each once
 --   beltId e        the belt number e, as the code has it
---   listed ns       the named belts ns as an array of 48, the rest of it 0
+--   listed ns       the named belts ns as an array of maxNamed places, the rest of it 0
 --   placeOf ns e    the place of belt e among the named belts ns, counted from 0, if it is one of them
---   placesOf ns     the places of all belt indices, as an array of 2,048 bytes: 0 is no place, k + 1 is place k
+--   placesOf ns     the places of all belt indices, as an array of maxRecords bytes: 0 is no place, k + 1 is place k
 --   placeIn ps e    the place that such an array has for belt e
 --
 -- Not here: what bytes are refused. Assumes nothing.
@@ -29,6 +29,7 @@ use Rattle.plan.specs.declared.read.Literal.the-variants.{OfBelt, OfMode
 use Rattle.plan.specs.declared.named.Place.{Place}
 use Rattle.plan.specs.declared.named.Place.the-variants.{At, Unnamed}
 use Rattle.plan.specs.Lists.{any, keep, count, mem, upto}
+use Rattle.plan.specs.Bounds.{maxRecords, maxNamed}
 use Rattle.plan.specs.Records.{field, kind, junctions, modes, records, chain}
 
 pub record Belt : Type 0 where
@@ -100,7 +101,7 @@ abbrev pub beltId : ℕ → BeltId
 beltId e = record { 0 = e }
 
 abbrev pub listed : List ℕ → List BeltId
-listed ns = map beltId ns ++ replicate (48 - length ns) (beltId 0)
+listed ns = map beltId ns ++ replicate (maxNamed - length ns) (beltId 0)
 
 abbrev pub placeBy : Bool → ℕ → Place
 placeBy true k = At k
@@ -115,7 +116,7 @@ placeCode (At k) = suc k
 placeCode Unnamed = 0
 
 unfoldable pub placesOf : List ℕ → List ℕ
-placesOf ns = map (λ (e : ℕ). placeCode (placeOf ns e)) (upto 0 2048)
+placesOf ns = map (λ (e : ℕ). placeCode (placeOf ns e)) (upto 0 maxRecords)
 
 abbrev pub codePlace : ℕ → Place
 codePlace zero = Unnamed

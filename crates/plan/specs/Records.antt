@@ -26,9 +26,10 @@ use mathlib.Core.List.{List, [], _∷_, _++_}
 use lib.ListN.{getD, length, take, drop}
 use lib.Dec.{eqb}
 use Rattle.plan.specs.Lists.{all, joined, upto, within}
+use Rattle.plan.specs.Bounds.{recordBytes, maxJunctions, maxModes}
 
 abbrev pub field : List ℕ → ℕ → ℕ → ℕ
-field b r f = getD b (12 * r + 2 * f) 0 * 256 + getD b (12 * r + 2 * f + 1) 0
+field b r f = getD b (recordBytes * r + 2 * f) 0 * 256 + getD b (recordBytes * r + 2 * f + 1) 0
 
 abbrev pub kind : List ℕ → ℕ → ℕ
 kind b r = field b r 0
@@ -81,7 +82,7 @@ entry k u1 u2 u3 u4 u5 = record { of = k; row = record { f1 = u1; f2 = u2; f3 = 
 -- THE TABLE. Kinds: 7 is record 0, 1 a junction, 2 a belt, 3 a rule, 4 a literal. A literal's field 4 is no chain index.
 abbrev pub rows : ℕ → List Entry
 rows j =
-    entry 7 (Between 1 256) (Between 0 10) (Chain 3) Any Unused
+    entry 7 (Between 1 maxJunctions) (Between 0 maxModes) (Chain 3) Any Unused
     ∷ entry 1 (Chain 2) Unused Unused Unused Unused
     ∷ entry 2 (Chain 2) (Between 1 j) Any Unused Unused
     ∷ entry 3 (Chain 3) (Chain 4) Unused Unused Unused

@@ -27,12 +27,13 @@ use Rattle.plan.specs.declared.check.Verdict.the-variants.{Accepted, Ref
 use Rattle.plan.specs.declared.refusal.Refusal.{Refusal}
 use Rattle.plan.specs.declared.refusal.Refusal.the-variants.{WrongSize, WrongHeader, WrongRecord, WrongChain, BackwardBelt, WrongLiteral, ManyNamed, WrongEnds, WrongQuery, ShortBuffer, WrongSheet, NotARoute, WrongCost, UnmetRule}
 use Rattle.plan.specs.Lists.{any, count, mem, upto, within}
+use Rattle.plan.specs.Bounds.{recordBytes, minPlanBytes, maxPlanBytes, maxNamed}
 use Rattle.plan.specs.Records.{field, kind, junctions, modes, records, fits, Link, links, chain}
 use Rattle.plan.specs.Plan.{planOf, named}
 
 -- 1: under 24 or over 24,576 bytes, or not 12 × f4 of record 0
 unfoldable pub broken1 : List ℕ → Bool
-broken1 b = not (within 24 (length b) 24576 && eqb (length b) (12 * records b))
+broken1 b = not (within minPlanBytes (length b) maxPlanBytes && eqb (length b) (recordBytes * records b))
 
 -- 2: f0, J, M or f5 of record 0 wrong, or N < J + 1
 unfoldable pub broken2 : List ℕ → Bool
@@ -93,7 +94,7 @@ broken6 b = any (misnames b) (upto (suc (junctions b)) (records b))
 
 -- 7: over 48 named belts
 unfoldable pub broken7 : List ℕ → Bool
-broken7 b = ltb 48 (length (named (planOf b)))
+broken7 b = ltb maxNamed (length (named (planOf b)))
 
 -- ---- the first broken line
 

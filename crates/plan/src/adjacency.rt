@@ -1,4 +1,5 @@
 // The belts of an accepted plan side by side, by the junction that they leave, decoded once for a search that reads them over and over.
+use crate::bounds::JUNCTION_PLACES;
 use crate::read;
 use crate::read::BeltId;
 ghost use mathlib.Core.Path.{_≡_};
@@ -33,8 +34,12 @@ pub fn name(arc: u64) -> BeltId
 
 // Puts the belts that leave junction u behind the first `from` arcs, and answers how many there are then.
 fn put_leaving(p: &[u8], u: usize, from: usize, arcs: &mut [u64]) -> usize
-    requires { ⌜ Accepted (now p) × (1 ≤ u) × (u ≤ planOf (now p) .junctions) × (from + length (leaving (planOf (now p)) u) ≤ length (now arcs)) ⌝ }
-    ensures { λ v. ⌜ (v ≡ from + length (leaving (planOf (now (p .entry))) u)) × (now (arcs .exit) ≡ take from (now (arcs .entry)) ++ map arcOf (leaving (planOf (now (p .entry))) u) ++ drop (from + length (leaving (planOf (now (p .entry))) u)) (now (arcs .entry))) ⌝ }
+    requires { ⌜ Accepted (now p)
+        × (1 ≤ u)
+        × (u ≤ planOf (now p) .junctions)
+        × (from + length (leaving (planOf (now p)) u) ≤ length (now arcs)) ⌝ }
+    ensures { λ v. ⌜ (v ≡ from + length (leaving (planOf (now (p .entry))) u))
+        × (now (arcs .exit) ≡ take from (now (arcs .entry)) ++ map arcOf (leaving (planOf (now (p .entry))) u) ++ drop (from + length (leaving (planOf (now (p .entry))) u)) (now (arcs .entry))) ⌝ }
 {
     let mut count = from;
     let mut belt = read::first_belt(p, u);
@@ -49,11 +54,14 @@ fn put_leaving(p: &[u8], u: usize, from: usize, arcs: &mut [u64]) -> usize
 
 // Puts the belts of an accepted plan side by side into `arcs`, which are all 0 before and as many as the plan has records, or more, and answers where
 // those of each junction end: the belts that leave junction u are the arcs from place ends[u - 1] on and before place ends[u]. Each belt is read once.
-pub fn decode(p: &[u8], arcs: &mut [u64]) -> [u16; 257]
-    requires { ⌜ Accepted (now p) × (now arcs ≡ replicate (length (now arcs)) 0) × (records (now p) ≤ length (now arcs)) ⌝ }
-    ensures { λ v. ⌜ (v ≡ endsOf (planOf (now (p .entry)))) × (now (arcs .exit) ≡ arcsIn (length (now (arcs .entry))) (planOf (now (p .entry)))) ⌝ }
+pub fn decode(p: &[u8], arcs: &mut [u64]) -> [u16; JUNCTION_PLACES]
+    requires { ⌜ Accepted (now p)
+        × (now arcs ≡ replicate (length (now arcs)) 0)
+        × (records (now p) ≤ length (now arcs)) ⌝ }
+    ensures { λ v. ⌜ (v ≡ endsOf (planOf (now (p .entry))))
+        × (now (arcs .exit) ≡ arcsIn (length (now (arcs .entry))) (planOf (now (p .entry)))) ⌝ }
 {
-    let mut ends = [0u16; 257];
+    let mut ends = [0u16; JUNCTION_PLACES];
     let last = read::junctions(p);
     let mut count = 0;
     let mut u = 0;

@@ -5,13 +5,16 @@ use crate::record::LITERAL;
 ghost use mathlib.Core.Path.{_≡_};
 ghost use Prim.Native.Nat.{_*_, _<_, _≤_};
 ghost use lib.ListN.{length};
+ghost use Rattle.plan.specs.Bounds.{recordBytes};
 ghost use Rattle.plan.specs.Records.{records, junctions};
 ghost use Rattle.plan.specs.Refusals.{backward, broken5, literalFits, misnames, broken6};
 ghost use Rattle.plan.specs.Inner.{Passed2, Passed4};
 
 // Whether a belt on the chain of junction j does not lead to a higher junction.
 fn backward(p: &[u8], j: usize) -> bool
-    requires { ⌜ Passed4 (now p) × (1 ≤ j) × (j ≤ junctions (now p)) ⌝ }
+    requires { ⌜ Passed4 (now p)
+        × (1 ≤ j)
+        × (j ≤ junctions (now p)) ⌝ }
     ensures { λ v. ⌜ v ≡ backward (now (p .entry)) j ⌝ }
 {
     let mut belt = record::index(p, j, 1);
@@ -42,7 +45,9 @@ pub fn backward_belt(p: &[u8]) -> bool
 
 // Whether record l, a literal, names a belt record or a mode from 1 to M.
 fn literal_fits(p: &[u8], n: usize, l: usize) -> bool
-    requires { ⌜ (n ≡ records (now p)) × (12 * n ≤ length (now p)) × (l < n) ⌝ }
+    requires { ⌜ (n ≡ records (now p))
+        × (recordBytes * n ≤ length (now p))
+        × (l < n) ⌝ }
     ensures { λ v. ⌜ v ≡ literalFits (now (p .entry)) l ⌝ }
 {
     let named = record::index(p, l, 4);
@@ -60,7 +65,9 @@ fn literal_fits(p: &[u8], n: usize, l: usize) -> bool
 
 // Whether record l is a literal that names no belt record and no mode.
 fn misnames(p: &[u8], n: usize, l: usize) -> bool
-    requires { ⌜ (n ≡ records (now p)) × (12 * n ≤ length (now p)) × (l < n) ⌝ }
+    requires { ⌜ (n ≡ records (now p))
+        × (recordBytes * n ≤ length (now p))
+        × (l < n) ⌝ }
     ensures { λ v. ⌜ v ≡ misnames (now (p .entry)) l ⌝ }
 {
     if record::field(p, l, 0) != LITERAL {

@@ -1,5 +1,6 @@
 // Line 4 of the refusal table: every chain index leads to a later record of the right kind, and every record above the
 // junctions is reached once. Each link is followed once; an array marks where the links lead.
+use crate::bounds::MAX_RECORDS;
 use crate::record;
 use crate::record::BELT;
 use crate::record::HEADER;
@@ -11,6 +12,7 @@ ghost use mathlib.Core.Bool.{not};
 ghost use mathlib.Core.List.{[], _∷_};
 ghost use Prim.Native.Nat.{_*_, _<_, _≤_};
 ghost use lib.ListN.{length};
+ghost use Rattle.plan.specs.Bounds.{recordBytes};
 ghost use Rattle.plan.specs.Lists.{any, upto};
 ghost use Rattle.plan.specs.Records.{records, linkTo, linksAt, links};
 ghost use Rattle.plan.specs.Refusals.{broken4};
@@ -26,7 +28,9 @@ fn bump(mark: u8) -> u8
 
 // Whether the chain index i, held by record r, does not lead to a later record of the kind wanted; marks the record that it leads to.
 fn follow_index(p: &[u8], seen: &mut [u8], n: usize, r: usize, i: usize, want: u16) -> bool
-    requires { ⌜ (n ≡ records (now p)) × (12 * n ≤ length (now p)) × (n ≤ length (now seen)) ⌝ }
+    requires { ⌜ (n ≡ records (now p))
+        × (recordBytes * n ≤ length (now p))
+        × (n ≤ length (now seen)) ⌝ }
     ensures { λ v. ⌜ Followed (now (p .entry)) (linkTo r i want) (now (seen .entry)) (now (seen .exit)) v ⌝ }
 {
     if i == 0 {
@@ -51,7 +55,7 @@ struct Target(usize, u16);
 // Whether what record r holds in a chain field is wrong; marks the record that it leads to.
 fn follow_one(p: &[u8], seen: &mut [u8], n: usize, r: usize, t: Target) -> bool
     requires { ⌜ (n ≡ records (now p))
-        × (12 * n ≤ length (now p))
+        × (recordBytes * n ≤ length (now p))
         × (n ≤ length (now seen))
         × (r < n)
         × (t .0 < 6) ⌝ }
@@ -63,7 +67,7 @@ fn follow_one(p: &[u8], seen: &mut [u8], n: usize, r: usize, t: Target) -> bool
 // The same of two chain fields, one after the other.
 fn follow_two(p: &[u8], seen: &mut [u8], n: usize, r: usize, t: Target, u: Target) -> bool
     requires { ⌜ (n ≡ records (now p))
-        × (12 * n ≤ length (now p))
+        × (recordBytes * n ≤ length (now p))
         × (n ≤ length (now seen))
         × (r < n)
         × (t .0 < 6)
@@ -80,7 +84,7 @@ fn follow_two(p: &[u8], seen: &mut [u8], n: usize, r: usize, t: Target, u: Targe
 // to look them up by the kind made a check slower by a fifth or more.
 fn follow_record(p: &[u8], seen: &mut [u8], n: usize, r: usize) -> bool
     requires { ⌜ (n ≡ records (now p))
-        × (12 * n ≤ length (now p))
+        × (recordBytes * n ≤ length (now p))
         × (n ≤ length (now seen))
         × (r < n) ⌝ }
     ensures { λ v. ⌜ Followed (now (p .entry)) (linksAt (now (p .entry)) r) (now (seen .entry)) (now (seen .exit)) v ⌝ }
@@ -97,7 +101,9 @@ fn follow_record(p: &[u8], seen: &mut [u8], n: usize, r: usize) -> bool
 
 // Whether a chain index of the plan is wrong; marks the records that they lead to.
 fn follow_all(p: &[u8], seen: &mut [u8], n: usize) -> bool
-    requires { ⌜ (n ≡ records (now p)) × (12 * n ≤ length (now p)) × (n ≤ length (now seen)) ⌝ }
+    requires { ⌜ (n ≡ records (now p))
+        × (recordBytes * n ≤ length (now p))
+        × (n ≤ length (now seen)) ⌝ }
     ensures { λ v. ⌜ Followed (now (p .entry)) (links (now (p .entry))) (now (seen .entry)) (now (seen .exit)) v ⌝ }
 {
     let mut r = 0;
@@ -133,7 +139,7 @@ pub fn wrong_chain(p: &[u8]) -> bool
     ensures { λ v. ⌜ v ≡ broken4 (now (p .entry)) ⌝ }
 {
     let n = record::records(p);
-    let mut seen = [0u8; 2048];
+    let mut seen = [0u8; MAX_RECORDS];
     if follow_all(p, &mut seen, n) {
         return true;
     }

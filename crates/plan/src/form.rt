@@ -1,4 +1,7 @@
 // Lines 1 to 3 of the refusal table: the size, record 0, and each record by itself.
+use crate::bounds::MAX_PLAN_BYTES;
+use crate::bounds::MIN_PLAN_BYTES;
+use crate::bounds::RECORD_BYTES;
 use crate::record;
 use crate::record::BELT;
 use crate::record::HEADER;
@@ -10,6 +13,7 @@ ghost use mathlib.Core.Path.{_≡_};
 ghost use mathlib.Core.Bool.{false, _&&_};
 ghost use Prim.Native.Nat.{_+_, _*_, _≤_};
 ghost use lib.ListN.{length};
+ghost use Rattle.plan.specs.Bounds.{recordBytes};
 ghost use Rattle.plan.specs.Records.{field, fits};
 ghost use Rattle.plan.specs.Refusals.{broken1, broken2, broken3, rightKind};
 ghost use Rattle.plan.specs.Inner.{Passed2};
@@ -18,13 +22,13 @@ ghost use Rattle.plan.specs.Inner.{Passed2};
 pub fn wrong_size(p: &[u8]) -> bool
     ensures { λ v. ⌜ v ≡ broken1 (now (p .entry)) ⌝ }
 {
-    if p.len() < 24 {
+    if p.len() < MIN_PLAN_BYTES {
         return true;
     }
-    if 24576 < p.len() {
+    if MAX_PLAN_BYTES < p.len() {
         return true;
     }
-    p.len() != 12 * record::records(p)
+    p.len() != RECORD_BYTES * record::records(p)
 }
 
 // Line 2: whether record 0 is wrong, or leaves no room for its junctions.
@@ -46,7 +50,7 @@ pub fn wrong_header(p: &[u8]) -> bool
 // kind, so that only the tests of this kind are left of `table::fits` there.
 fn right_record(p: &[u8], junctions: u16, r: usize) -> bool
     requires { ⌜ (junctions ≡ field (now p) 0 1)
-        × (12 * r + 12 ≤ length (now p)) ⌝ }
+        × (recordBytes * r + recordBytes ≤ length (now p)) ⌝ }
     ensures { λ v. ⌜ v ≡ (rightKind (now (p .entry)) r && fits (now (p .entry)) r) ⌝ }
 {
     let kind = record::field(p, r, 0);

@@ -1,5 +1,6 @@
 // Depot plans: any bytes are refused with the paper's number or are an accepted plan, whose parts can then be read.
 //
+//   bounds   the limits of the format, by name
 //   refusal  the lines of the refusal table
 //   record   fields of 12-byte records, read and written
 //   table    what each kind of record holds in its unused and ranged fields
@@ -13,6 +14,7 @@
 //   adjacency   its belts side by side, by the junction that they leave
 pub mod adjacency;
 mod belts;
+pub mod bounds;
 mod chain;
 pub mod check;
 mod form;

@@ -1,17 +1,20 @@
 // The named belts of an accepted plan: those in some rule. Their list, and the place of each belt among them.
+use crate::bounds::MAX_NAMED;
+use crate::bounds::MAX_RECORDS;
 use crate::notes;
 use crate::read::BeltId;
 use crate::record;
 ghost use mathlib.Core.Path.{_≡_};
 ghost use Prim.Native.Nat.{_<_};
 ghost use lib.ListN.{length, replicate};
+ghost use Rattle.plan.specs.Bounds.{maxRecords};
 ghost use Rattle.plan.specs.Plan.{planOf, named, listed, placesOf, placeIn};
 ghost use Rattle.plan.specs.Reading.{Accepted};
 
 // The named belts in rising order; the rest of the array is BeltId(0).
 pub struct Named {
     pub count: usize,
-    pub belts: [BeltId; 48],
+    pub belts: [BeltId; MAX_NAMED],
 }
 
 // The place of a belt among the named belts, counted from 0.
@@ -23,12 +26,13 @@ pub enum Place {
 // The named belts of an accepted plan.
 pub fn named_belts(p: &[u8]) -> Named
     requires { ⌜ Accepted (now p) ⌝ }
-    ensures { λ v. ⌜ (v .count ≡ length (named (planOf (now (p .entry))))) × (v .belts ≡ listed (named (planOf (now (p .entry))))) ⌝ }
+    ensures { λ v. ⌜ (v .count ≡ length (named (planOf (now (p .entry)))))
+        × (v .belts ≡ listed (named (planOf (now (p .entry))))) ⌝ }
 {
-    let mut marks = [0u8; 2048];
+    let mut marks = [0u8; MAX_RECORDS];
     notes::note_named(p, &mut marks);
     let n = record::records(p);
-    let mut belts = [BeltId(0); 48];
+    let mut belts = [BeltId(0); MAX_NAMED];
     let mut count = 0;
     let mut e = 0;
     while e < n {
@@ -46,8 +50,11 @@ pub fn named_belts(p: &[u8]) -> Named
 
 // Puts the places of all belts among the named belts of an accepted plan, which are lent as `named_belts` answers them, into an array that is all 0
 // before, for `place_of`.
-pub fn places_among(p: &[u8], list: Named, places: &mut [u8; 2048])
-    requires { ⌜ Accepted (now p) × (list .count ≡ length (named (planOf (now p)))) × (list .belts ≡ listed (named (planOf (now p)))) × (now places ≡ replicate 2048 0) ⌝ }
+pub fn places_among(p: &[u8], list: Named, places: &mut [u8; MAX_RECORDS])
+    requires { ⌜ Accepted (now p)
+        × (list .count ≡ length (named (planOf (now p))))
+        × (list .belts ≡ listed (named (planOf (now p))))
+        × (now places ≡ replicate maxRecords 0) ⌝ }
     ensures { λ _. ⌜ now (places .exit) ≡ placesOf (named (planOf (now (p .entry)))) ⌝ }
 {
     let mut k = 0;
@@ -59,11 +66,11 @@ pub fn places_among(p: &[u8], list: Named, places: &mut [u8; 2048])
 }
 
 // The places of all belts among the named belts of an accepted plan.
-pub fn named_places(p: &[u8]) -> [u8; 2048]
+pub fn named_places(p: &[u8]) -> [u8; MAX_RECORDS]
     requires { ⌜ Accepted (now p) ⌝ }
     ensures { λ v. ⌜ v ≡ placesOf (named (planOf (now (p .entry)))) ⌝ }
 {
-    let mut places = [0u8; 2048];
+    let mut places = [0u8; MAX_RECORDS];
     places_among(p, named_belts(p), &mut places);
     places
 }

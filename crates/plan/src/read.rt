@@ -29,7 +29,9 @@ pub enum Literal {
 
 // Field f of record i.
 fn at(p: &[u8], i: usize, f: usize) -> u16
-    requires { ⌜ Accepted (now p) × (i < records (now p)) × (f < 6) ⌝ }
+    requires { ⌜ Accepted (now p)
+        × (i < records (now p))
+        × (f < 6) ⌝ }
     ensures { λ v. ⌜ v ≡ field (now (p .entry)) i f ⌝ }
 {
     record::field(p, i, f)
@@ -53,7 +55,9 @@ pub fn modes(p: &[u8]) -> usize
 
 // The first belt leaving junction j, or BeltId(0).
 pub fn first_belt(p: &[u8], j: usize) -> BeltId
-    requires { ⌜ Accepted (now p) × (1 ≤ j) × (j ≤ planOf (now p) .junctions) ⌝ }
+    requires { ⌜ Accepted (now p)
+        × (1 ≤ j)
+        × (j ≤ planOf (now p) .junctions) ⌝ }
     ensures { λ v. ⌜ v .0 ≡ firstBelt (now (p .entry)) j ⌝ }
 {
     BeltId(at(p, j, 1))
@@ -61,7 +65,8 @@ pub fn first_belt(p: &[u8], j: usize) -> BeltId
 
 // The next belt leaving the same junction, or BeltId(0).
 pub fn next_belt(p: &[u8], belt: BeltId) -> BeltId
-    requires { ⌜ Accepted (now p) × IsBelt (now p) (belt .0) ⌝ }
+    requires { ⌜ Accepted (now p)
+        × IsBelt (now p) (belt .0) ⌝ }
     ensures { λ v. ⌜ v .0 ≡ nextBelt (now (p .entry)) (belt .0) ⌝ }
 {
     BeltId(at(p, belt.0 as usize, 1))
@@ -81,7 +86,10 @@ pub fn is_belt(p: &[u8], belt: BeltId) -> bool
 
 // Whether a belt leaves junction j: it stands on the junction's chain.
 pub fn leaves(p: &[u8], belt: BeltId, j: usize) -> bool
-    requires { ⌜ Accepted (now p) × IsBelt (now p) (belt .0) × (1 ≤ j) × (j ≤ planOf (now p) .junctions) ⌝ }
+    requires { ⌜ Accepted (now p)
+        × IsBelt (now p) (belt .0)
+        × (1 ≤ j)
+        × (j ≤ planOf (now p) .junctions) ⌝ }
     ensures { λ v. ⌜ v ≡ eqb (beltAt (now (p .entry)) (belt .0) .leaves) j ⌝ }
 {
     let mut other = first_belt(p, j);
@@ -96,7 +104,8 @@ pub fn leaves(p: &[u8], belt: BeltId, j: usize) -> bool
 
 // The junction that a belt leads to.
 pub fn leads_to(p: &[u8], belt: BeltId) -> usize
-    requires { ⌜ Accepted (now p) × IsBelt (now p) (belt .0) ⌝ }
+    requires { ⌜ Accepted (now p)
+        × IsBelt (now p) (belt .0) ⌝ }
     ensures { λ v. ⌜ v ≡ beltAt (now (p .entry)) (belt .0) .leads ⌝ }
 {
     at(p, belt.0 as usize, 2) as usize
@@ -104,8 +113,10 @@ pub fn leads_to(p: &[u8], belt: BeltId) -> usize
 
 // The cost of a belt.
 pub fn cost(p: &[u8], belt: BeltId) -> u64
-    requires { ⌜ Accepted (now p) × IsBelt (now p) (belt .0) ⌝ }
-    ensures { λ v. ⌜ (v ≡ beltAt (now (p .entry)) (belt .0) .cost) × (v < 65536) ⌝ }
+    requires { ⌜ Accepted (now p)
+        × IsBelt (now p) (belt .0) ⌝ }
+    ensures { λ v. ⌜ (v ≡ beltAt (now (p .entry)) (belt .0) .cost)
+        × (v < 65536) ⌝ }
 {
     at(p, belt.0 as usize, 3) as u64
 }
@@ -120,7 +131,8 @@ pub fn first_rule(p: &[u8]) -> RuleId
 
 // The next rule, or RuleId(0).
 pub fn next_rule(p: &[u8], rule: RuleId) -> RuleId
-    requires { ⌜ Accepted (now p) × IsRule (now p) (rule .0) ⌝ }
+    requires { ⌜ Accepted (now p)
+        × IsRule (now p) (rule .0) ⌝ }
     ensures { λ v. ⌜ v .0 ≡ nextRule (now (p .entry)) (rule .0) ⌝ }
 {
     RuleId(at(p, rule.0 as usize, 1))
@@ -128,7 +140,8 @@ pub fn next_rule(p: &[u8], rule: RuleId) -> RuleId
 
 // The first literal of a rule, or LiteralId(0).
 pub fn first_literal(p: &[u8], rule: RuleId) -> LiteralId
-    requires { ⌜ Accepted (now p) × IsRule (now p) (rule .0) ⌝ }
+    requires { ⌜ Accepted (now p)
+        × IsRule (now p) (rule .0) ⌝ }
     ensures { λ v. ⌜ v .0 ≡ firstLiteral (now (p .entry)) (rule .0) ⌝ }
 {
     LiteralId(at(p, rule.0 as usize, 2))
@@ -136,7 +149,8 @@ pub fn first_literal(p: &[u8], rule: RuleId) -> LiteralId
 
 // The next literal of the same rule, or LiteralId(0).
 pub fn next_literal(p: &[u8], literal: LiteralId) -> LiteralId
-    requires { ⌜ Accepted (now p) × IsLiteral (now p) (literal .0) ⌝ }
+    requires { ⌜ Accepted (now p)
+        × IsLiteral (now p) (literal .0) ⌝ }
     ensures { λ v. ⌜ v .0 ≡ nextLiteral (now (p .entry)) (literal .0) ⌝ }
 {
     LiteralId(at(p, literal.0 as usize, 1))
@@ -144,7 +158,8 @@ pub fn next_literal(p: &[u8], literal: LiteralId) -> LiteralId
 
 // What a literal says.
 pub fn literal_of(p: &[u8], literal: LiteralId) -> Literal
-    requires { ⌜ Accepted (now p) × IsLiteral (now p) (literal .0) ⌝ }
+    requires { ⌜ Accepted (now p)
+        × IsLiteral (now p) (literal .0) ⌝ }
     ensures { λ v. ⌜ v ≡ literalAt (now (p .entry)) (literal .0) ⌝ }
 {
     let wanted = at(p, literal.0 as usize, 2) == 1;

@@ -1,7 +1,9 @@
 // Fields of 12-byte records (paper 01, "Plan bytes"): how they are read, and how they are written.
+use crate::bounds::RECORD_BYTES;
 ghost use mathlib.Core.Path.{_≡_};
 ghost use Prim.Native.Nat.{_+_, _*_, _<_, _≤_};
 ghost use lib.ListN.{length};
+ghost use Rattle.plan.specs.Bounds.{recordBytes};
 ghost use Rattle.plan.specs.Records.{field, records, fieldBytes, recordOf, placed};
 
 // The kinds of records, field 0.
@@ -16,40 +18,46 @@ pub const LITERAL: u16 = 4;
 pub const HEADER: u16 = 7;
 
 fn wide(x: u8) -> u16
-    ensures { λ v. ⌜ (v ≡ x) × (v < 256) ⌝ }
+    ensures { λ v. ⌜ (v ≡ x)
+        × (v < 256) ⌝ }
 {
     x as u16
 }
 
 // Field f of record r, high byte first.
 pub fn field(p: &[u8], r: usize, f: usize) -> u16
-    requires { ⌜ (f < 6) × (12 * r + 12 ≤ length (now p)) ⌝ }
+    requires { ⌜ (f < 6)
+        × (recordBytes * r + recordBytes ≤ length (now p)) ⌝ }
     ensures { λ v. ⌜ v ≡ field (now (p .entry)) r f ⌝ }
 {
-    let at = 12 * r + 2 * f;
+    let at = RECORD_BYTES * r + 2 * f;
     let high = wide(p[at]);
     let low = wide(p[at + 1]);
     high * 256 + low
 }
 
 fn wide16(x: u16) -> usize
-    ensures { λ v. ⌜ (v ≡ x) × (v < 65536) ⌝ }
+    ensures { λ v. ⌜ (v ≡ x)
+        × (v < 65536) ⌝ }
 {
     x as usize
 }
 
 // Field f of record r, as an index or a count.
 pub fn index(p: &[u8], r: usize, f: usize) -> usize
-    requires { ⌜ (f < 6) × (12 * r + 12 ≤ length (now p)) ⌝ }
-    ensures { λ v. ⌜ (v ≡ field (now (p .entry)) r f) × (v < 65536) ⌝ }
+    requires { ⌜ (f < 6)
+        × (recordBytes * r + recordBytes ≤ length (now p)) ⌝ }
+    ensures { λ v. ⌜ (v ≡ field (now (p .entry)) r f)
+        × (v < 65536) ⌝ }
 {
     wide16(field(p, r, f))
 }
 
 // N, the count of records.
 pub fn records(p: &[u8]) -> usize
-    requires { ⌜ 12 ≤ length (now p) ⌝ }
-    ensures { λ v. ⌜ (v ≡ records (now (p .entry))) × (v < 65536) ⌝ }
+    requires { ⌜ recordBytes ≤ length (now p) ⌝ }
+    ensures { λ v. ⌜ (v ≡ records (now (p .entry)))
+        × (v < 65536) ⌝ }
 {
     index(p, 0, 4)
 }
@@ -65,10 +73,10 @@ pub fn put_field(out: &mut [u8], at: usize, f: u16)
 
 // Writes record i, all six fields.
 pub fn put_record(out: &mut [u8], i: usize, f0: u16, f1: u16, f2: u16, f3: u16, f4: u16, f5: u16)
-    requires { ⌜ 12 * i + 12 ≤ length (now out) ⌝ }
-    ensures { λ _. ⌜ now (out .exit) ≡ placed (now (out .entry)) (12 * i) (recordOf f0 f1 f2 f3 f4 f5) ⌝ }
+    requires { ⌜ recordBytes * i + recordBytes ≤ length (now out) ⌝ }
+    ensures { λ _. ⌜ now (out .exit) ≡ placed (now (out .entry)) (recordBytes * i) (recordOf f0 f1 f2 f3 f4 f5) ⌝ }
 {
-    let at = 12 * i;
+    let at = RECORD_BYTES * i;
     put_field(out, at, f0);
     put_field(out, at + 2, f1);
     put_field(out, at + 4, f2);

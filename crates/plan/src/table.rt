@@ -1,5 +1,7 @@
 // What each kind of record holds in its unused and ranged fields: the rows of the table `rows` of specs/Records.antt, an arm for each kind: a
 // loop over a row that is looked up would take most of a check's time. The rows' chain indices are followed in chain.rt.
+use crate::bounds::MAX_JUNCTIONS;
+use crate::bounds::MAX_MODES;
 use crate::record;
 use crate::record::BELT;
 use crate::record::HEADER;
@@ -11,12 +13,14 @@ ghost use mathlib.Core.Bool.{_&&_};
 ghost use Prim.Native.Nat.{_+_, _*_, _<_, _≤_};
 ghost use lib.ListN.{length};
 ghost use lib.Dec.{eqb};
+ghost use Rattle.plan.specs.Bounds.{recordBytes};
 ghost use Rattle.plan.specs.Lists.{within};
 ghost use Rattle.plan.specs.Records.{field, fits};
 
 // Whether fields f and f + 1 of record r are zero: one test of both as one number.
 fn zeros(p: &[u8], r: usize, f: usize) -> bool
-    requires { ⌜ (f < 5) × (12 * r + 12 ≤ length (now p)) ⌝ }
+    requires { ⌜ (f < 5)
+        × (recordBytes * r + recordBytes ≤ length (now p)) ⌝ }
     ensures { λ v. ⌜ v ≡ (eqb (field (now (p .entry)) r f) 0 && eqb (field (now (p .entry)) r (f + 1)) 0) ⌝ }
 {
     record::index(p, r, f) * 65536 + record::index(p, r, f + 1) == 0
@@ -24,7 +28,8 @@ fn zeros(p: &[u8], r: usize, f: usize) -> bool
 
 // Whether field f of record r is from a to z.
 fn ranged(p: &[u8], r: usize, f: usize, a: u16, z: u16) -> bool
-    requires { ⌜ (f < 6) × (12 * r + 12 ≤ length (now p)) ⌝ }
+    requires { ⌜ (f < 6)
+        × (recordBytes * r + recordBytes ≤ length (now p)) ⌝ }
     ensures { λ v. ⌜ v ≡ within a (field (now (p .entry)) r f) z ⌝ }
 {
     let value = record::field(p, r, f);
@@ -41,7 +46,7 @@ fn both(a: bool, b: bool) -> bool
 // Whether field f of record r is zero.
 fn zero(p: &[u8], r: usize, f: usize) -> bool
     requires { ⌜ (f < 6)
-        × (12 * r + 12 ≤ length (now p)) ⌝ }
+        × (recordBytes * r + recordBytes ≤ length (now p)) ⌝ }
     ensures { λ v. ⌜ v ≡ eqb (field (now (p .entry)) r f) 0 ⌝ }
 {
     record::field(p, r, f) == 0
@@ -51,12 +56,15 @@ fn zero(p: &[u8], r: usize, f: usize) -> bool
 pub fn fits(p: &[u8], junctions: u16, kind: u16, r: usize) -> bool
     requires { ⌜ (junctions ≡ field (now p) 0 1)
         × (kind ≡ field (now p) r 0)
-        × (12 * r + 12 ≤ length (now p)) ⌝ }
+        × (recordBytes * r + recordBytes ≤ length (now p)) ⌝ }
     ensures { λ v. ⌜ v ≡ fits (now (p .entry)) r ⌝ }
 {
     match kind {
         HEADER => both(
-            both(ranged(p, r, 1, 1, 256), ranged(p, r, 2, 0, 10)),
+            both(
+                ranged(p, r, 1, 1, MAX_JUNCTIONS as u16),
+                ranged(p, r, 2, 0, MAX_MODES as u16),
+            ),
             zero(p, r, 5),
         ),
         JUNCTION => both(zeros(p, r, 2), zeros(p, r, 4)),

@@ -12,6 +12,7 @@ ghost use mathlib.Core.Path.{_≡_};
 ghost use mathlib.Core.Bool.{false};
 ghost use Prim.Native.Nat.{_^_, _≤_};
 ghost use lib.Dec.{ltb};
+ghost use Rattle.plan.specs.Bounds.{maxSteps};
 ghost use Rattle.plan.specs.Plan.{planOf};
 ghost use Rattle.plan.specs.Reading.{Accepted};
 ghost use Rattle.route.specs.Routes.{wrongEnds};
@@ -37,7 +38,7 @@ fn is_setting(p: &[u8], setting: u16) -> bool
 fn check_content(p: &[u8], trip: Trip, sheet: Sheet) -> SheetVerdict
     requires { ⌜ Accepted (now p)
         × (wrongEnds (planOf (now p)) (trip .s) (trip .t) ≡ false)
-        × (sheet .route .count ≤ 255) ⌝ }
+        × (sheet .route .count ≤ maxSteps) ⌝ }
     ensures { λ v. ⌜ sheetNumber v ≡ contentRefusal (planOf (now (p .entry))) trip sheet ⌝ }
 {
     let route = sheet.route;

@@ -2,6 +2,7 @@
 // rule, and 65,536 times its first literal; the entry of a literal is the next literal of its rule, and 65,536 times its code; the rest is 0.
 // A code is twice the literal's variable, and 1 more where it is wanted. The variable of a named belt is its place among the named belts, of which
 // there are at most 48, and that of mode m is 47 + m.
+use plan::bounds::MAX_RECORDS;
 use plan::read;
 use plan::read::Literal;
 use plan::read::RuleId;
@@ -25,7 +26,7 @@ fn code(variable: u32, wanted: bool) -> u32
 }
 
 // The code of a literal. `places` are those of the named belts (plan::named::named_places).
-fn code_of(places: &[u8; 2048], literal: Literal) -> u32
+fn code_of(places: &[u8; MAX_RECORDS], literal: Literal) -> u32
     requires { ⌜ Codable (now places) literal ⌝ }
     ensures { λ v. ⌜ v ≡ codeIn (now (places .entry)) literal ⌝ }
 {
@@ -36,7 +37,7 @@ fn code_of(places: &[u8; 2048], literal: Literal) -> u32
 }
 
 // Puts the entries of a rule's literals into the array, which has one for each record.
-fn put_literals(p: &[u8], places: &[u8; 2048], clauses: &mut [u32], rule: RuleId)
+fn put_literals(p: &[u8], places: &[u8; MAX_RECORDS], clauses: &mut [u32], rule: RuleId)
     requires { ⌜ Accepted (now p) × (now places ≡ namedPlaces (now p)) × IsRule (now p) (rule .0) × (records (now p) ≤ length (now clauses)) ⌝ }
     ensures { λ v. ⌜ now (clauses .exit) ≡ stores (entryOf (now (p .entry))) (now (clauses .entry)) (chain (now (p .entry)) (firstLiteral (now (p .entry)) (rule .0))) ⌝ }
 {
@@ -51,7 +52,7 @@ fn put_literals(p: &[u8], places: &[u8; 2048], clauses: &mut [u32], rule: RuleId
 
 // Puts the clauses of an accepted plan into the array, which is all 0 before and as long as the plan has records, or longer. `places` are those of its
 // named belts (plan::named::named_places). Each literal is read once.
-pub fn decode(p: &[u8], places: &[u8; 2048], clauses: &mut [u32])
+pub fn decode(p: &[u8], places: &[u8; MAX_RECORDS], clauses: &mut [u32])
     requires { ⌜ Accepted (now p) × (now places ≡ namedPlaces (now p)) × (now clauses ≡ replicate (length (now clauses)) 0) × (records (now p) ≤ length (now clauses)) ⌝ }
     ensures { λ v. ⌜ now (clauses .exit) ≡ clausesIn (length (now (clauses .entry))) (now (p .entry)) ⌝ }
 {

@@ -1,5 +1,6 @@
 // Sets of named belts as masks: bit k stands for the belt at place k among the named belts (plan::named).
 use crate::path::Route;
+use plan::bounds::MAX_RECORDS;
 use plan::named;
 use plan::named::Place;
 ghost use mathlib.Core.Path.{_≡_};
@@ -28,7 +29,7 @@ pub fn with(mask: u64, place: Place) -> u64
 }
 
 // The named belts on a route. `places` are those of the named belts (plan::named::named_places).
-pub fn on_route(places: &[u8; 2048], route: Route) -> u64
+pub fn on_route(places: &[u8; MAX_RECORDS], route: Route) -> u64
     requires { ⌜ Placeable (now places) route ⌝ }
     ensures { λ v. ⌜ v ≡ gatheredIn (now (places .entry)) 0 (idsOf route) ⌝ }
 {

@@ -1,11 +1,13 @@
 // Routes: what is asked of one, and its belts: whether they are the plan's, whether they connect, what they cost,
 // and which of two comes before the other.
+use plan::bounds::MAX_STEPS;
 use plan::read;
 use plan::read::BeltId;
 ghost use mathlib.Core.Path.{_≡_};
 ghost use Prim.Native.Nat.{ℕ, _≤_, _<_};
 ghost use mathlib.Core.Bool.{not};
 ghost use lib.ListN.{length};
+ghost use Rattle.plan.specs.Bounds.{maxSteps};
 ghost use Rattle.plan.specs.Lists.{all, mem, within};
 ghost use Rattle.plan.specs.Plan.{planOf, namesOf};
 ghost use Rattle.plan.specs.Reading.{Accepted};
@@ -22,15 +24,16 @@ pub struct Trip {
 // A route: its belts in order are the first `count` of the array.
 pub struct Route {
     pub count: usize,
-    pub belts: [BeltId; 255],
+    pub belts: [BeltId; MAX_STEPS],
 }
 
 // The route of the first `count` belts of an array of their numbers.
-pub fn of_belts(numbers: &[u16; 255], count: usize) -> Route
-    requires { ⌜ (count ≤ 255) × (length (now numbers) ≡ 255) ⌝ }
+pub fn of_belts(numbers: &[u16; MAX_STEPS], count: usize) -> Route
+    requires { ⌜ (count ≤ maxSteps)
+        × (length (now numbers) ≡ maxSteps) ⌝ }
     ensures { λ v. ⌜ v ≡ firstBelts count (now (numbers .entry)) ⌝ }
 {
-    let mut belts = [BeltId(0); 255];
+    let mut belts = [BeltId(0); MAX_STEPS];
     let mut k = 0;
     while k < count {
         let belt = BeltId(numbers[k]);
@@ -67,7 +70,8 @@ pub fn wrong_ends(p: &[u8], trip: Trip) -> bool
 
 // Whether every belt of the route is a belt of the plan.
 pub fn are_belts(p: &[u8], route: Route) -> bool
-    requires { ⌜ Accepted (now p) × (route .count ≤ 255) ⌝ }
+    requires { ⌜ Accepted (now p)
+        × (route .count ≤ maxSteps) ⌝ }
     ensures { λ v. ⌜ v ≡ all (λ (e : ℕ). mem e (namesOf (planOf (now (p .entry)) .belts))) (idsOf route) ⌝ }
 {
     let mut k = 0;
@@ -116,7 +120,8 @@ pub fn cost(p: &[u8], route: Route) -> u64
 
 // Whether at the first difference route a has the lower belt. Where one goes on and the other ends, the shorter.
 fn lower(a: Route, b: Route) -> bool
-    requires { ⌜ (a .count ≤ 255) × (b .count ≤ 255) ⌝ }
+    requires { ⌜ (a .count ≤ maxSteps)
+        × (b .count ≤ maxSteps) ⌝ }
     ensures { λ v. ⌜ v ≡ lowerIds (idsOf a) (idsOf b) ⌝ }
 {
     let mut k = 0;

@@ -15,6 +15,10 @@
 use crate::masks;
 use crate::path::Trip;
 use plan::adjacency;
+use plan::bounds::JUNCTION_PLACES;
+use plan::bounds::MAX_NAMED;
+use plan::bounds::MAX_RECORDS;
+use plan::bounds::MAX_STEPS;
 use plan::named;
 use plan::named::Named;
 use plan::named::Place;
@@ -27,6 +31,7 @@ ghost use mathlib.Core.Option.{none};
 ghost use lib.Bits.{bitAnd};
 ghost use lib.ListN.{length, getD, replicate};
 ghost use lib.Dec.{ltb};
+ghost use Rattle.plan.specs.Bounds.{junctionPlaces, maxRecords};
 ghost use Rattle.plan.specs.Lists.{any, upto};
 ghost use Rattle.plan.specs.Plan.{planOf, beltAt, namesOf, leaving, named, listed, placeIn, beltId};
 ghost use Rattle.plan.specs.Adjacency.{arcHead, arcName, arcsIn, endsOf};
@@ -64,11 +69,17 @@ struct Way {
 
 // The pass backwards keeps one number for each junction, 0 before it: BELTS times the cost of the way on from there, and the first belt of that way.
 // BELTS is above the number of every belt.
-const BELTS: u64 = 2048;
+const BELTS: u64 = MAX_RECORDS as u64;
 
 // The cost of the cheapest way on over this belt, by the ways on from later junctions. A forbidden belt drops out, and one that leads past
 // `nearest`.
-fn way_over(p: &[u8], ways: &[u64; 257], nearest: usize, belt: BeltId, forbidden: bool) -> u64
+fn way_over(
+    p: &[u8],
+    ways: &[u64; JUNCTION_PLACES],
+    nearest: usize,
+    belt: BeltId,
+    forbidden: bool,
+) -> u64
     requires { ⌜ Accepted (now p) × IsBelt (now p) (belt .0) × ((j : ℕ) → getD (costsIn (now ways)) j 0 ≤ costLimit) ⌝ }
     ensures { λ v. ⌜ v ≡ wayOver (costsIn (now (ways .entry))) nearest forbidden (beltAt (now (p .entry)) (belt .0)) ⌝ }
 {
@@ -87,9 +98,9 @@ fn way_over(p: &[u8], ways: &[u64; 257], nearest: usize, belt: BeltId, forbidden
 // where there are more. The belt is the first of them: named belts rise, so it has the lowest place.
 fn by_required(
     p: &[u8],
-    belts: &[u16; 48],
+    belts: &[u16; MAX_NAMED],
     fixings: Fixings,
-    ways: &[u64; 257],
+    ways: &[u64; JUNCTION_PLACES],
     nearest: usize,
     u: usize,
     hit: u64,
@@ -113,8 +124,9 @@ fn by_required(
 }
 
 // Whether a belt is not forbidden and leads no further than `nearest`.
-fn is_open(places: &[u8; 2048], forbidden: u64, nearest: usize, arc: u64) -> bool
-    requires { ⌜ (arcName arc < 2048) × LowPlace (placeIn (now places) (arcName arc)) ⌝ }
+fn is_open(places: &[u8; MAX_RECORDS], forbidden: u64, nearest: usize, arc: u64) -> bool
+    requires { ⌜ (arcName arc < maxRecords)
+        × LowPlace (placeIn (now places) (arcName arc)) ⌝ }
     ensures { λ v. ⌜ v ≡ not (inMask forbidden (placeIn (now (places .entry)) (arcName arc)) || ltb nearest (arcHead arc)) ⌝ }
 {
     if nearest < adjacency::head(arc) {
@@ -126,11 +138,11 @@ fn is_open(places: &[u8; 2048], forbidden: u64, nearest: usize, arc: u64) -> boo
 // The cheapest way on from junction u where no required belt leaves it: a belt by which it gets no cheaper is not looked at further.
 fn cheapest(
     p: &[u8],
-    places: &[u8; 2048],
-    ends: &[u16; 257],
+    places: &[u8; MAX_RECORDS],
+    ends: &[u16; JUNCTION_PLACES],
     arcs: &[u64],
     fixings: Fixings,
-    ways: &[u64; 257],
+    ways: &[u64; JUNCTION_PLACES],
     nearest: usize,
     u: usize,
 ) -> Way
@@ -163,13 +175,13 @@ fn cheapest(
 // The cheapest way on from junction u. `exits` tells which required belts leave it.
 fn way_from(
     p: &[u8],
-    places: &[u8; 2048],
-    belts: &[u16; 48],
-    ends: &[u16; 257],
+    places: &[u8; MAX_RECORDS],
+    belts: &[u16; MAX_NAMED],
+    ends: &[u16; JUNCTION_PLACES],
     arcs: &[u64],
-    exits: &[u64; 257],
+    exits: &[u64; JUNCTION_PLACES],
     fixings: Fixings,
-    ways: &[u64; 257],
+    ways: &[u64; JUNCTION_PLACES],
     nearest: usize,
     u: usize,
 ) -> Way
@@ -188,18 +200,26 @@ fn way_from(
 // costs too much the pass is over. Only the ways of junctions from s on and before t are changed.
 fn ways_to(
     p: &[u8],
-    places: &[u8; 2048],
-    belts: &[u16; 48],
-    ends: &[u16; 257],
+    places: &[u8; MAX_RECORDS],
+    belts: &[u16; MAX_NAMED],
+    ends: &[u16; JUNCTION_PLACES],
     arcs: &[u64],
-    exits: &[u64; 257],
+    exits: &[u64; JUNCTION_PLACES],
     fixings: Fixings,
     bound: u64,
     s: usize,
     t: usize,
-    ways: &mut [u64; 257],
+    ways: &mut [u64; JUNCTION_PLACES],
 ) -> u64
-    requires { ⌜ Lent (now p) (now places) (now ends) (now arcs) × (now exits ≡ exitsOf (now p)) × (1 ≤ s) × (s ≤ t) × (t ≤ planOf (now p) .junctions) × OfNamed (now p) (fixings .required) × (bound < costLimit) × (now ways ≡ replicate 257 0) × (now belts ≡ numbersOf (named (planOf (now p)))) ⌝ }
+    requires { ⌜ Lent (now p) (now places) (now ends) (now arcs)
+        × (now exits ≡ exitsOf (now p))
+        × (1 ≤ s)
+        × (s ≤ t)
+        × (t ≤ planOf (now p) .junctions)
+        × OfNamed (now p) (fixings .required)
+        × (bound < costLimit)
+        × (now ways ≡ replicate junctionPlaces 0)
+        × (now belts ≡ numbersOf (named (planOf (now p)))) ⌝ }
     ensures { λ v. ⌜ (v ≡ wayCost (atMost bound (wayIn (now (p .entry)) fixings t s))) × (v ≤ bound → Guides (now (p .entry)) fixings t s (firstsIn (now (ways .exit)))) × Spared s t (now (ways .exit)) ⌝ }
 {
     let mut nearest = t;
@@ -235,8 +255,8 @@ fn ways_to(
 }
 
 // The first belt of the way on from junction u.
-fn first_of(ways: &[u64; 257], u: usize) -> BeltId
-    requires { ⌜ u < 257 ⌝ }
+fn first_of(ways: &[u64; JUNCTION_PLACES], u: usize) -> BeltId
+    requires { ⌜ u < junctionPlaces ⌝ }
     ensures { λ v. ⌜ v ≡ getD (firstsIn (now (ways .entry))) u (beltId 0) ⌝ }
 {
     BeltId((ways[u] % BELTS) as u16)
@@ -245,13 +265,13 @@ fn first_of(ways: &[u64; 257], u: usize) -> BeltId
 // The walk forward, from s where there is a way on: the numbers of its belts are put into `kept`, from the first place on.
 fn walk(
     p: &[u8],
-    places: &[u8; 2048],
+    places: &[u8; MAX_RECORDS],
     fixings: Fixings,
     cost: u64,
-    ways: &[u64; 257],
+    ways: &[u64; JUNCTION_PLACES],
     s: usize,
     t: usize,
-    kept: &mut [u16; 255],
+    kept: &mut [u16; MAX_STEPS],
 ) -> Summary
     requires { ⌜ Accepted (now p) × (now places ≡ namedPlaces (now p)) × (1 ≤ s) × (t ≤ planOf (now p) .junctions) × (cost ≡ costLimit → ⊥) × (cost ≡ wayCost (wayIn (now p) fixings t s)) × Guides (now p) fixings t s (firstsIn (now ways)) ⌝ }
     ensures { λ v. ⌜ (v ≡ summaryAs (now (p .entry)) (wayIn (now (p .entry)) fixings t s)) × (now (kept .exit) ≡ keptOf (wayIn (now (p .entry)) fixings t s) (now (kept .entry))) ⌝ }
@@ -274,9 +294,10 @@ fn walk(
 }
 
 // Clears the ways of the junctions from s on and before t.
-fn clear(ways: &mut [u64; 257], s: usize, t: usize)
-    requires { ⌜ (t ≤ 257) × Spared s t (now ways) ⌝ }
-    ensures { λ _. ⌜ now (ways .exit) ≡ replicate 257 0 ⌝ }
+fn clear(ways: &mut [u64; JUNCTION_PLACES], s: usize, t: usize)
+    requires { ⌜ (t ≤ junctionPlaces)
+        × Spared s t (now ways) ⌝ }
+    ensures { λ _. ⌜ now (ways .exit) ≡ replicate junctionPlaces 0 ⌝ }
 {
     let mut j = s;
     while j < t {
@@ -286,8 +307,8 @@ fn clear(ways: &mut [u64; 257], s: usize, t: usize)
 }
 
 // The named belts that leave some junction from s on and before t, as a mask.
-fn inside(exits: &[u64; 257], s: usize, t: usize) -> u64
-    requires { ⌜ t ≤ 257 ⌝ }
+fn inside(exits: &[u64; JUNCTION_PLACES], s: usize, t: usize) -> u64
+    requires { ⌜ t ≤ junctionPlaces ⌝ }
     ensures { λ v. ⌜ v ≡ joinedIn (now (exits .entry)) 0 (upto s t) ⌝ }
 {
     let mut mask = 0u64;
@@ -301,7 +322,7 @@ fn inside(exits: &[u64; 257], s: usize, t: usize) -> u64
 
 // Whether s is not past t, and every required belt leaves some junction from s on and before t. Then the way on from s is the relaxed route, and
 // else there is none.
-fn may_lead(p: &[u8], exits: &[u64; 257], trip: Trip, fixings: Fixings) -> bool
+fn may_lead(p: &[u8], exits: &[u64; JUNCTION_PLACES], trip: Trip, fixings: Fixings) -> bool
     requires { ⌜ Accepted (now p) × (now exits ≡ exitsOf (now p)) × (wrongEnds (planOf (now p)) (trip .s) (trip .t) ≡ false) × OfNamed (now p) (fixings .required) ⌝ }
     ensures { λ v. ⌜ (v ≡ true → (trip .s ≤ trip .t) × (wayIn (now (p .entry)) fixings (trip .t) (trip .s) ≡ relaxed (planOf (now (p .entry))) (trip .s) (trip .t) (subproblemIn (now (p .entry)) fixings))) × (v ≡ false → relaxed (planOf (now (p .entry))) (trip .s) (trip .t) (subproblemIn (now (p .entry)) fixings) ≡ none) ⌝ }
 {
@@ -330,18 +351,27 @@ fn nothing() -> Summary
 // is room to work in, all 0 before and after.
 pub fn relaxed_route(
     p: &[u8],
-    places: &[u8; 2048],
-    belts: &[u16; 48],
-    ends: &[u16; 257],
+    places: &[u8; MAX_RECORDS],
+    belts: &[u16; MAX_NAMED],
+    ends: &[u16; JUNCTION_PLACES],
     arcs: &[u64],
-    exits: &[u64; 257],
+    exits: &[u64; JUNCTION_PLACES],
     trip: Trip,
     fixings: Fixings,
     bound: u64,
-    ways: &mut [u64; 257],
-    kept: &mut [u16; 255],
+    ways: &mut [u64; JUNCTION_PLACES],
+    kept: &mut [u16; MAX_STEPS],
 ) -> Summary
-    requires { ⌜ Accepted (now p) × (now places ≡ namedPlaces (now p)) × (now ends ≡ endsOf (planOf (now p))) × (now arcs ≡ arcsIn (length (now arcs)) (planOf (now p))) × (now exits ≡ exitsOf (now p)) × (wrongEnds (planOf (now p)) (trip .s) (trip .t) ≡ false) × OfNamed (now p) (fixings .required) × (bound < costLimit) × (now ways ≡ replicate 257 0) × (now belts ≡ numbersOf (named (planOf (now p)))) ⌝ }
+    requires { ⌜ Accepted (now p)
+        × (now places ≡ namedPlaces (now p))
+        × (now ends ≡ endsOf (planOf (now p)))
+        × (now arcs ≡ arcsIn (length (now arcs)) (planOf (now p)))
+        × (now exits ≡ exitsOf (now p))
+        × (wrongEnds (planOf (now p)) (trip .s) (trip .t) ≡ false)
+        × OfNamed (now p) (fixings .required)
+        × (bound < costLimit)
+        × (now ways ≡ replicate junctionPlaces 0)
+        × (now belts ≡ numbersOf (named (planOf (now p)))) ⌝ }
     ensures { λ v. ⌜ (v ≡ summaryAs (now (p .entry)) (atMost bound (relaxed (planOf (now (p .entry))) (trip .s) (trip .t) (subproblemIn (now (p .entry)) fixings)))) × (now (ways .exit) ≡ now (ways .entry)) × (now (kept .exit) ≡ keptOf (atMost bound (relaxed (planOf (now (p .entry))) (trip .s) (trip .t) (subproblemIn (now (p .entry)) fixings))) (now (kept .entry))) ⌝ }
 {
     if !may_lead(p, exits, trip, fixings) {
@@ -371,13 +401,13 @@ pub fn relaxed_route(
 }
 
 // The numbers of an accepted plan's named belts, which are lent as plan::named::named_belts answers them, for `relaxed_route`.
-pub fn numbers(p: &[u8], list: Named) -> [u16; 48]
+pub fn numbers(p: &[u8], list: Named) -> [u16; MAX_NAMED]
     requires { ⌜ Accepted (now p) × (list .belts ≡ listed (named (planOf (now p)))) ⌝ }
     ensures { λ v. ⌜ v ≡ numbersOf (named (planOf (now (p .entry)))) ⌝ }
 {
-    let mut belts = [0u16; 48];
+    let mut belts = [0u16; MAX_NAMED];
     let mut k = 0;
-    while k < 48 {
+    while k < MAX_NAMED {
         let belt = list.belts[k];
         belts[k] = belt.0;
         k += 1;
@@ -386,7 +416,13 @@ pub fn numbers(p: &[u8], list: Named) -> [u16; 48]
 }
 
 // The named belts that leave junction u, as a mask.
-fn exits_at(p: &[u8], places: &[u8; 2048], ends: &[u16; 257], arcs: &[u64], u: usize) -> u64
+fn exits_at(
+    p: &[u8],
+    places: &[u8; MAX_RECORDS],
+    ends: &[u16; JUNCTION_PLACES],
+    arcs: &[u64],
+    u: usize,
+) -> u64
     requires { ⌜ Lent (now p) (now places) (now ends) (now arcs) × (1 ≤ u) × (u ≤ planOf (now p) .junctions) ⌝ }
     ensures { λ v. ⌜ v ≡ maskOf (now (p .entry)) (namesOf (leaving (planOf (now (p .entry))) u)) ⌝ }
 {
@@ -403,8 +439,18 @@ fn exits_at(p: &[u8], places: &[u8; 2048], ends: &[u16; 257], arcs: &[u64], u: u
 
 // Puts the named belts that leave each junction of a plan, as masks, into an array that is all 0 before. `places`, `ends` and `arcs` are those of the
 // plan, as for `relaxed_route`.
-pub fn exits(p: &[u8], places: &[u8; 2048], ends: &[u16; 257], arcs: &[u64], exits: &mut [u64; 257])
-    requires { ⌜ Accepted (now p) × (now places ≡ namedPlaces (now p)) × (now ends ≡ endsOf (planOf (now p))) × (now arcs ≡ arcsIn (length (now arcs)) (planOf (now p))) × (now exits ≡ replicate 257 0) ⌝ }
+pub fn exits(
+    p: &[u8],
+    places: &[u8; MAX_RECORDS],
+    ends: &[u16; JUNCTION_PLACES],
+    arcs: &[u64],
+    exits: &mut [u64; JUNCTION_PLACES],
+)
+    requires { ⌜ Accepted (now p)
+        × (now places ≡ namedPlaces (now p))
+        × (now ends ≡ endsOf (planOf (now p)))
+        × (now arcs ≡ arcsIn (length (now arcs)) (planOf (now p)))
+        × (now exits ≡ replicate junctionPlaces 0) ⌝ }
     ensures { λ _. ⌜ now (exits .exit) ≡ exitsOf (now (p .entry)) ⌝ }
 {
     let last = read::junctions(p);

@@ -3,6 +3,7 @@
 use crate::clauses;
 use crate::masks;
 use crate::path::Route;
+use plan::bounds::MAX_RECORDS;
 use plan::named;
 ghost use mathlib.Core.Path.{_≡_};
 ghost use Prim.Native.Nat.{_<_};
@@ -52,7 +53,7 @@ pub fn met_by(p: &[u8], route: Route, setting: u16) -> bool
     ensures { λ v. ⌜ v ≡ allMet (planOf (now (p .entry)) .rules) (passes (routeIn (now (p .entry)) route)) setting ⌝ }
 {
     let places = named::named_places(p);
-    let mut clauses = [0u32; 2048];
+    let mut clauses = [0u32; MAX_RECORDS];
     clauses::decode(p, &places, &mut clauses);
     all_met(p, &clauses, masks::on_route(&places, route), setting)
 }

@@ -1,5 +1,8 @@
 // Route sheets: records in the form of a plan's. Record 0 holds the cost and the setting, each further one a belt of the route.
 use crate::path::Route;
+use plan::bounds::MAX_SHEET_BYTES;
+use plan::bounds::MAX_STEPS;
+use plan::bounds::RECORD_BYTES;
 use plan::read::BeltId;
 use plan::record;
 ghost use mathlib.Core.Path.{_≡_};
@@ -7,6 +10,7 @@ ghost use mathlib.Core.Bool.{true};
 ghost use mathlib.Core.List.{_++_};
 ghost use Prim.Native.Nat.{_+_, _*_, _≤_, _<_};
 ghost use lib.ListN.{length, drop};
+ghost use Rattle.plan.specs.Bounds.{maxSteps, recordBytes};
 ghost use Rattle.plan.specs.Records.{placed};
 ghost use Rattle.route.specs.Routes.{costLimit};
 ghost use Rattle.route.specs.Sheets.{nextOf, headOf, stepsFrom, steps, headFits, stepFits, inForm, beltsOn, costOn};
@@ -26,7 +30,7 @@ pub struct Sheet {
 
 // The index behind record i of a sheet with so many steps; 0 behind the last.
 fn next_of(count: usize, i: usize) -> u16
-    requires { ⌜ count ≤ 255 ⌝ }
+    requires { ⌜ count ≤ maxSteps ⌝ }
     ensures { λ v. ⌜ v ≡ nextOf count i ⌝ }
 {
     if i < count {
@@ -37,7 +41,9 @@ fn next_of(count: usize, i: usize) -> u16
 
 // Whether record 0 is in the form of a sheet.
 fn head_fits(h: &[u8], count: usize) -> bool
-    requires { ⌜ (count ≡ steps (now h)) × (count ≤ 255) × (12 ≤ length (now h)) ⌝ }
+    requires { ⌜ (count ≡ steps (now h))
+        × (count ≤ maxSteps)
+        × (recordBytes ≤ length (now h)) ⌝ }
     ensures { λ v. ⌜ v ≡ headFits (now (h .entry)) ⌝ }
 {
     record::field(h, 0, 0) == SHEET && record::field(h, 0, 1) == next_of(count, 0)
@@ -45,7 +51,9 @@ fn head_fits(h: &[u8], count: usize) -> bool
 
 // Whether record i is in the form of a step.
 fn step_fits(h: &[u8], count: usize, i: usize) -> bool
-    requires { ⌜ (count ≡ steps (now h)) × (count ≤ 255) × (12 * i + 12 ≤ length (now h)) ⌝ }
+    requires { ⌜ (count ≡ steps (now h))
+        × (count ≤ maxSteps)
+        × (recordBytes * i + recordBytes ≤ length (now h)) ⌝ }
     ensures { λ v. ⌜ v ≡ stepFits (now (h .entry)) i ⌝ }
 {
     if record::field(h, i, 0) != STEP {
@@ -68,16 +76,16 @@ pub fn in_form(h: &[u8]) -> bool
     ensures { λ v. ⌜ v ≡ inForm (now (h .entry)) ⌝ }
 {
     let n = h.len();
-    if n < 12 {
+    if n < RECORD_BYTES {
         return false;
     }
-    if 3072 < n {
+    if MAX_SHEET_BYTES < n {
         return false;
     }
-    if n % 12 != 0 {
+    if n % RECORD_BYTES != 0 {
         return false;
     }
-    let count = n / 12 - 1;
+    let count = n / RECORD_BYTES - 1;
     if !head_fits(h, count) {
         return false;
     }
@@ -96,8 +104,8 @@ fn read_route(h: &[u8]) -> Route
     requires { ⌜ inForm (now h) ≡ true ⌝ }
     ensures { λ v. ⌜ v ≡ packed (beltsOn (now (h .entry))) ⌝ }
 {
-    let count = h.len() / 12 - 1;
-    let mut belts = [BeltId(0); 255];
+    let count = h.len() / RECORD_BYTES - 1;
+    let mut belts = [BeltId(0); MAX_STEPS];
     let mut k = 0;
     while k < count {
         belts[k] = BeltId(record::field(h, k + 1, 2));
@@ -118,7 +126,7 @@ fn wide(x: u16) -> u64
 
 // The cost, 48 bits in fields 2 to 4, high first.
 fn read_cost(h: &[u8]) -> u64
-    requires { ⌜ 12 ≤ length (now h) ⌝ }
+    requires { ⌜ recordBytes ≤ length (now h) ⌝ }
     ensures { λ v. ⌜ v ≡ costOn (now (h .entry)) ⌝ }
 {
     let high = wide(record::field(h, 0, 2));
@@ -144,7 +152,9 @@ pub fn read(h: &[u8]) -> Sheet
 
 // Record 0 of a sheet with so many steps.
 fn put_head(out: &mut [u8], count: usize, cost: u64, setting: u16)
-    requires { ⌜ (count ≤ 255) × (cost < costLimit) × (12 ≤ length (now out)) ⌝ }
+    requires { ⌜ (count ≤ maxSteps)
+        × (cost < costLimit)
+        × (recordBytes ≤ length (now out)) ⌝ }
     ensures { λ _. ⌜ now (out .exit) ≡ placed (now (out .entry)) 0 (headOf count cost setting) ⌝ }
 {
     let high = (cost / 4294967296) as u16;
@@ -155,7 +165,8 @@ fn put_head(out: &mut [u8], count: usize, cost: u64, setting: u16)
 
 // A step for each belt of the route, from record 1 on.
 fn put_steps(out: &mut [u8], route: Route)
-    requires { ⌜ (route .count ≤ 255) × (12 * route .count + 12 ≤ length (now out)) ⌝ }
+    requires { ⌜ (route .count ≤ maxSteps)
+        × (recordBytes * route .count + recordBytes ≤ length (now out)) ⌝ }
     ensures { λ _. ⌜ now (out .exit) ≡ placed (now (out .entry)) 12 (stepsFrom (route .count) 1 (idsOf route)) ⌝ }
 {
     let belts = route.belts;
@@ -170,11 +181,13 @@ fn put_steps(out: &mut [u8], route: Route)
 
 // Writes the sheet to the start of the buffer, and answers its length. Bytes behind it do not change.
 pub fn write(out: &mut [u8], sheet: Sheet) -> usize
-    requires { ⌜ (sheet .route .count ≤ 255) × (sheet .cost < costLimit) × (12 * sheet .route .count + 12 ≤ length (now out)) ⌝ }
+    requires { ⌜ (sheet .route .count ≤ maxSteps)
+        × (sheet .cost < costLimit)
+        × (recordBytes * sheet .route .count + recordBytes ≤ length (now out)) ⌝ }
     ensures { λ v. ⌜ (v ≡ length (bytesOf sheet)) × (now (out .exit) ≡ bytesOf sheet ++ drop v (now (out .entry))) ⌝ }
 {
     let route = sheet.route;
     put_head(out, route.count, sheet.cost, sheet.setting);
     put_steps(out, route);
-    12 * route.count + 12
+    RECORD_BYTES * route.count + RECORD_BYTES
 }

@@ -6,6 +6,10 @@ use crate::run;
 use crate::state::Ending;
 use crate::state::Search;
 use plan::adjacency;
+use plan::bounds::JUNCTION_PLACES;
+use plan::bounds::MAX_RECORDS;
+use plan::bounds::MAX_SHEET_BYTES;
+use plan::bounds::RECORD_BYTES;
 use plan::check::Verdict;
 use plan::named;
 use plan::named::Named;
@@ -23,6 +27,7 @@ ghost use mathlib.Core.Path.{_≡_};
 ghost use mathlib.Core.Bool.{false};
 ghost use Prim.Native.Nat.{_≤_};
 ghost use lib.ListN.{length};
+ghost use Rattle.plan.specs.Bounds.{maxSheetBytes};
 ghost use Rattle.plan.specs.Plan.{planOf, named, listed};
 ghost use Rattle.plan.specs.Adjacency.{arcsIn, endsOf};
 ghost use Rattle.plan.specs.Reading.{Accepted};
@@ -31,6 +36,11 @@ ghost use Rattle.route.specs.Values.{settingIn, namedPlaces, Clauses};
 ghost use Rattle.search.specs.Answers.{orZero, unlessRefused, outcome, replyOf, Told};
 ghost use Rattle.search.specs.Values.{requestOf, Valid};
 ghost use Rattle.search.specs.Inner.{bestOf};
+
+// A plan of at most so many records is decoded into arrays of that size, which are sooner cleared than those of the largest plan.
+const SMALL_PLAN: usize = 256;
+
+const SMALL_PLAN_BYTES: usize = RECORD_BYTES * SMALL_PLAN;
 
 // What the planner answers.
 pub enum Answer {
@@ -67,7 +77,7 @@ fn setting_of(lowest: Lowest) -> u16
 // Writes the sheet of the best route of a search that has found it, and answers its length. `places` and `clauses` are those of the plan.
 fn write_best(
     p: &[u8],
-    places: &[u8; 2048],
+    places: &[u8; MAX_RECORDS],
     clauses: &[u32],
     search: Search,
     out: &mut [u8],
@@ -76,7 +86,7 @@ fn write_best(
         × (now places ≡ namedPlaces (now p))
         × Clauses (now p) (now clauses)
         × Valid (now p) search
-        × (3072 ≤ length (now out)) ⌝ }
+        × (maxSheetBytes ≤ length (now out)) ⌝ }
     ensures { λ v. ⌜ Told (replyOf v) (now (out .entry)) (now (out .exit)) (bestOf (now (p .entry)) search) ⌝ }
 {
     let route = search.best;
@@ -95,17 +105,25 @@ fn find_over(
     p: &[u8],
     query: Query,
     list: Named,
-    places: &[u8; 2048],
-    ends: &[u16; 257],
+    places: &[u8; MAX_RECORDS],
+    ends: &[u16; JUNCTION_PLACES],
     arcs: &[u64],
     clauses: &[u32],
     out: &mut [u8],
 ) -> Answer
-    requires { ⌜ Accepted (now p) × (wrongEnds (planOf (now p)) (query .trip .s) (query .trip .t) ≡ false) × (3072 ≤ length (now out)) × (list .count ≡ length (named (planOf (now p)))) × (list .belts ≡ listed (named (planOf (now p)))) × (now places ≡ namedPlaces (now p)) × (now ends ≡ endsOf (planOf (now p))) × (now arcs ≡ arcsIn (length (now arcs)) (planOf (now p))) × Clauses (now p) (now clauses) ⌝ }
+    requires { ⌜ Accepted (now p)
+        × (wrongEnds (planOf (now p)) (query .trip .s) (query .trip .t) ≡ false)
+        × (maxSheetBytes ≤ length (now out))
+        × (list .count ≡ length (named (planOf (now p))))
+        × (list .belts ≡ listed (named (planOf (now p))))
+        × (now places ≡ namedPlaces (now p))
+        × (now ends ≡ endsOf (planOf (now p)))
+        × (now arcs ≡ arcsIn (length (now arcs)) (planOf (now p)))
+        × Clauses (now p) (now clauses) ⌝ }
     ensures { λ v. ⌜ Told (replyOf v) (now (out .entry)) (now (out .exit)) (unlessRefused 0 (requestOf (now (p .entry)) query (now (out .entry)))) ⌝ }
 {
     let belts = relax::numbers(p, list);
-    let mut exits = [0u64; 257];
+    let mut exits = [0u64; JUNCTION_PLACES];
     relax::exits(p, places, ends, arcs, &mut exits);
     let counts = pick::rule_counts(p, places, list.count);
     let stepped = run::run(
@@ -131,22 +149,24 @@ fn find_over(
 
 // The same, with what is made of the plan. An array is cleared whole for each query, so a small plan, of up to 256 records, has smaller ones.
 fn find_route(p: &[u8], query: Query, out: &mut [u8]) -> Answer
-    requires { ⌜ Accepted (now p) × (wrongEnds (planOf (now p)) (query .trip .s) (query .trip .t) ≡ false) × (3072 ≤ length (now out)) ⌝ }
+    requires { ⌜ Accepted (now p)
+        × (wrongEnds (planOf (now p)) (query .trip .s) (query .trip .t) ≡ false)
+        × (maxSheetBytes ≤ length (now out)) ⌝ }
     ensures { λ v. ⌜ Told (replyOf v) (now (out .entry)) (now (out .exit)) (unlessRefused 0 (requestOf (now (p .entry)) query (now (out .entry)))) ⌝ }
 {
     let list = named::named_belts(p);
-    let mut places = [0u8; 2048];
+    let mut places = [0u8; MAX_RECORDS];
     named::places_among(p, list, &mut places);
-    if p.len() <= 3072 {
-        let mut arcs = [0u64; 256];
+    if p.len() <= SMALL_PLAN_BYTES {
+        let mut arcs = [0u64; SMALL_PLAN];
         let ends = adjacency::decode(p, &mut arcs);
-        let mut clauses = [0u32; 256];
+        let mut clauses = [0u32; SMALL_PLAN];
         clauses::decode(p, &places, &mut clauses);
         return find_over(p, query, list, &places, &ends, &arcs, &clauses, out);
     }
-    let mut arcs = [0u64; 2048];
+    let mut arcs = [0u64; MAX_RECORDS];
     let ends = adjacency::decode(p, &mut arcs);
-    let mut clauses = [0u32; 2048];
+    let mut clauses = [0u32; MAX_RECORDS];
     clauses::decode(p, &places, &mut clauses);
     find_over(p, query, list, &places, &ends, &arcs, &clauses, out)
 }
@@ -165,7 +185,7 @@ pub fn search(p: &[u8], query: Query, out: &mut [u8]) -> Answer
     if query::wrong_query(query) {
         return Answer::Refused(Refusal::WrongQuery);
     }
-    if out.len() < 3072 {
+    if out.len() < MAX_SHEET_BYTES {
         return Answer::Refused(Refusal::ShortBuffer);
     }
     find_route(p, query, out)

@@ -1,4 +1,6 @@
 // The belt that a subproblem is branched on: the three picks. Belts are told by their places among the named belts.
+use plan::bounds::MAX_NAMED;
+use plan::bounds::MAX_RECORDS;
 use plan::named;
 use plan::named::Place;
 use plan::read;
@@ -10,6 +12,7 @@ ghost use mathlib.Core.Path.{_≡_};
 ghost use mathlib.Core.List.{head?};
 ghost use Prim.Native.Nat.{ℕ, _≤_, _<_};
 ghost use lib.ListN.{length, getD};
+ghost use Rattle.plan.specs.Bounds.{maxNamed};
 ghost use Rattle.plan.specs.Plan.{planOf, named, ruleAt};
 ghost use Rattle.plan.specs.Reading.{Accepted, IsRule};
 ghost use Rattle.plan.specs.declared.named.Place.the-variants.{At};
@@ -22,14 +25,14 @@ ghost use Rattle.search.specs.Inner.{beltsIn, withRule, unfixedPlaces, a
 // What the picks go by beside a subproblem and its relaxed route: how many named belts there are, and in how many rules each of them is.
 pub struct Counts {
     pub named: usize,
-    pub rules: [u16; 48],
+    pub rules: [u16; MAX_NAMED],
 }
 
 // The mask with every place in it.
 const ALL: u64 = 18446744073709551615;
 
 // The named belts in a rule, as a mask.
-fn in_rule(p: &[u8], places: &[u8; 2048], rule: RuleId) -> u64
+fn in_rule(p: &[u8], places: &[u8; MAX_RECORDS], rule: RuleId) -> u64
     requires { ⌜ Accepted (now p) × (now places ≡ namedPlaces (now p)) × IsRule (now p) (rule .0) ⌝ }
     ensures { λ v. ⌜ v ≡ gatheredIn (now (places .entry)) 0 (beltsIn (ruleAt (now (p .entry)) (rule .0))) ⌝ }
 {
@@ -49,8 +52,9 @@ fn in_rule(p: &[u8], places: &[u8; 2048], rule: RuleId) -> u64
 }
 
 // The counts with one more for each belt in the mask of a rule.
-fn with_rule(rules: [u16; 48], count: usize, mask: u64) -> [u16; 48]
-    requires { ⌜ (count ≤ 48) × ((k : ℕ) → getD rules k 0 < 65535) ⌝ }
+fn with_rule(rules: [u16; MAX_NAMED], count: usize, mask: u64) -> [u16; MAX_NAMED]
+    requires { ⌜ (count ≤ maxNamed)
+        × ((k : ℕ) → getD rules k 0 < 65535) ⌝ }
     ensures { λ v. ⌜ v ≡ withRule rules count mask ⌝ }
 {
     let mut sums = rules;
@@ -66,11 +70,11 @@ fn with_rule(rules: [u16; 48], count: usize, mask: u64) -> [u16; 48]
 
 // The counts of an accepted plan. `places` are those of its named belts (plan::named::named_places), of which there are `count`. Each
 // rule is read once.
-pub fn rule_counts(p: &[u8], places: &[u8; 2048], count: usize) -> Counts
+pub fn rule_counts(p: &[u8], places: &[u8; MAX_RECORDS], count: usize) -> Counts
     requires { ⌜ Accepted (now p) × (now places ≡ namedPlaces (now p)) × (count ≡ length (named (planOf (now p)))) ⌝ }
     ensures { λ v. ⌜ v ≡ countsOf (now (p .entry)) ⌝ }
 {
-    let mut rules = [0u16; 48];
+    let mut rules = [0u16; MAX_NAMED];
     let mut rule = read::first_rule(p);
     while rule.0 != 0 {
         let sums = with_rule(rules, count, in_rule(p, places, rule));
@@ -85,7 +89,7 @@ pub fn rule_counts(p: &[u8], places: &[u8; 2048], count: usize) -> Counts
 
 // The lowest unfixed belt in a mask: below the lowest bit that is 1 there are as many zeros as its place says.
 fn lowest_in(fixings: Fixings, count: usize, mask: u64) -> Place
-    requires { ⌜ count ≤ 48 ⌝ }
+    requires { ⌜ count ≤ maxNamed ⌝ }
     ensures { λ v. ⌜ v ≡ atPlace (find (λ (k : ℕ). inMask mask (At k)) (unfixedPlaces fixings count)) ⌝ }
 {
     let fixed = fixings.required | fixings.forbidden;
@@ -98,7 +102,7 @@ fn lowest_in(fixings: Fixings, count: usize, mask: u64) -> Place
 
 // The lowest unfixed belt.
 fn lowest(fixings: Fixings, count: usize) -> Place
-    requires { ⌜ count ≤ 48 ⌝ }
+    requires { ⌜ count ≤ maxNamed ⌝ }
     ensures { λ v. ⌜ v ≡ atPlace (head? (unfixedPlaces fixings count)) ⌝ }
 {
     lowest_in(fixings, count, ALL)
@@ -106,7 +110,7 @@ fn lowest(fixings: Fixings, count: usize) -> Place
 
 // The unfixed belt in most rules, the lowest of equals: the places are gone through downwards, and a later one replaces an equal.
 fn busiest(fixings: Fixings, counts: Counts) -> Place
-    requires { ⌜ counts .named ≤ 48 ⌝ }
+    requires { ⌜ counts .named ≤ maxNamed ⌝ }
     ensures { λ v. ⌜ v ≡ atPlace (highest (countAt (counts .rules)) (unfixedPlaces fixings (counts .named))) ⌝ }
 {
     let fixed = fixings.required | fixings.forbidden;
@@ -133,7 +137,7 @@ fn busiest(fixings: Fixings, counts: Counts) -> Place
 
 // The lowest unfixed belt in a mask, else the lowest.
 fn lowest_on(fixings: Fixings, count: usize, mask: u64) -> Place
-    requires { ⌜ count ≤ 48 ⌝ }
+    requires { ⌜ count ≤ maxNamed ⌝ }
     ensures { λ v. ⌜ v ≡ atPlace (otherwise (find (λ (k : ℕ). inMask mask (At k)) (unfixedPlaces fixings count)) (head? (unfixedPlaces fixings count))) ⌝ }
 {
     let on = lowest_in(fixings, count, mask);

@@ -4,6 +4,10 @@ use crate::query::Query;
 use crate::state;
 use crate::state::Ending;
 use crate::state::Stepped;
+use plan::bounds::JUNCTION_PLACES;
+use plan::bounds::MAX_NAMED;
+use plan::bounds::MAX_RECORDS;
+use plan::bounds::MAX_STEPS;
 use route::relax;
 ghost use mathlib.Core.Path.{_≡_};
 ghost use Rattle.search.specs.Search.{run};
@@ -14,11 +18,11 @@ ghost use Rattle.search.specs.Values.{turnIn, Valid, boundIn, Ready};
 // copy it. The steps share the room that they work in.
 pub fn run(
     p: &[u8],
-    places: &[u8; 2048],
-    belts: &[u16; 48],
-    ends: &[u16; 257],
+    places: &[u8; MAX_RECORDS],
+    belts: &[u16; MAX_NAMED],
+    ends: &[u16; JUNCTION_PLACES],
     arcs: &[u64],
-    exits: &[u64; 257],
+    exits: &[u64; JUNCTION_PLACES],
     clauses: &[u32],
     counts: Counts,
     query: Query,
@@ -26,8 +30,8 @@ pub fn run(
     requires { ⌜ Ready (now p) (now places) (now belts) (now ends) (now arcs) (now exits) (now clauses) counts query ⌝ }
     ensures { λ v. ⌜ (turnIn (now (p .entry)) v ≡ run (problemIn (now (p .entry)) query) (query .budget)) × Valid (now (p .entry)) (v .search) × (v .bound ≡ boundIn (now (p .entry)) (v .search)) ⌝ }
 {
-    let mut ways = [0u64; 257];
-    let mut kept = [0u16; 255];
+    let mut ways = [0u64; JUNCTION_PLACES];
+    let mut kept = [0u16; MAX_STEPS];
     let mut stepped = Stepped {
         search: state::begin(),
         ending: Ending::GoesOn,

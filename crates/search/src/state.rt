@@ -2,6 +2,10 @@
 use crate::pick;
 use crate::pick::Counts;
 use crate::query::Query;
+use plan::bounds::JUNCTION_PLACES;
+use plan::bounds::MAX_NAMED;
+use plan::bounds::MAX_RECORDS;
+use plan::bounds::MAX_STEPS;
 use plan::named::Place;
 use plan::read::BeltId;
 use route::masks;
@@ -15,6 +19,7 @@ ghost use mathlib.Core.Path.{_≡_};
 ghost use mathlib.Core.Bool.{true};
 ghost use Prim.Native.Nat.{_≤_, _<_};
 ghost use lib.ListN.{length, replicate};
+ghost use Rattle.plan.specs.Bounds.{junctionPlaces, maxSteps};
 ghost use Rattle.plan.specs.declared.named.Place.the-variants.{At};
 ghost use Rattle.plan.specs.Reading.{Accepted};
 ghost use Rattle.route.specs.Values.{OfNamed, hasBelt, Clauses};
@@ -82,7 +87,7 @@ pub fn begin() -> Search
         opened: 0,
         best: Route {
             count: 0,
-            belts: [BeltId(0); 255],
+            belts: [BeltId(0); MAX_STEPS],
         },
         found: false,
     }
@@ -162,19 +167,24 @@ impl Search {
     pub fn step(
         mut self,
         p: &[u8],
-        places: &[u8; 2048],
-        belts: &[u16; 48],
-        ends: &[u16; 257],
+        places: &[u8; MAX_RECORDS],
+        belts: &[u16; MAX_NAMED],
+        ends: &[u16; JUNCTION_PLACES],
         arcs: &[u64],
-        exits: &[u64; 257],
+        exits: &[u64; JUNCTION_PLACES],
         clauses: &[u32],
         counts: Counts,
         query: Query,
         mut bound: u64,
-        ways: &mut [u64; 257],
-        kept: &mut [u16; 255],
+        ways: &mut [u64; JUNCTION_PLACES],
+        kept: &mut [u16; MAX_STEPS],
     ) -> Stepped
-        requires { ⌜ Ready (now p) (now places) (now belts) (now ends) (now arcs) (now exits) (now clauses) counts query × Valid (now p) self × (self .opened ≤ query .budget) × (bound ≡ boundIn (now p) self) × (now ways ≡ replicate 257 0) × (length (now kept) ≡ 255) ⌝ }
+        requires { ⌜ Ready (now p) (now places) (now belts) (now ends) (now arcs) (now exits) (now clauses) counts query
+            × Valid (now p) self
+            × (self .opened ≤ query .budget)
+            × (bound ≡ boundIn (now p) self)
+            × (now ways ≡ replicate junctionPlaces 0)
+            × (length (now kept) ≡ maxSteps) ⌝ }
         ensures { λ v. ⌜ (turnIn (now (p .entry)) v ≡ stepIn (now (p .entry)) query self) × Valid (now (p .entry)) (v .search) × (v .bound ≡ boundIn (now (p .entry)) (v .search)) × (now (ways .exit) ≡ now (ways .entry)) × (now (kept .exit) ≡ keptIn (now (p .entry)) query self (now (kept .entry))) ⌝ }
     {
         if self.count == 0 || self.opened == query.budget {

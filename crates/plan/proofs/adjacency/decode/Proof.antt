@@ -6,6 +6,7 @@ use native.Mathlib.Omega.{arith}
 use native.Mathlib.Numerals.{add-one}
 use lib.ListN.{length, take, drop, set}
 use borrow.Author.Needs.{needs}
+use Rattle.plan.specs.Bounds.{maxJunctions}
 use Rattle.plan.specs.Plan.{planOf, leaving}
 use Rattle.plan.specs.Adjacency.{arcOf, inOrder, arcsIn, endsOf}
 use Rattle.plan.proofs.Reading.{plan-sizes}
@@ -40,7 +41,7 @@ same c =
 more : (c : tie.In-loop Inv-loop μ-loop) → c .before .loop .u < planOf (c .before .before .before .before .before .args .p .now) .junctions
 more c = omega (arith, c .loop-test .taken, c .before .before .junctions .ensures)
 
-few : (c : tie.In-loop Inv-loop μ-loop) → c .before .loop .u < 256
+few : (c : tie.In-loop Inv-loop μ-loop) → c .before .loop .u < maxJunctions
 few c = omega (arith, more c, plan-sizes (c .before .before .before .before .before .pre .0) .1)
 
 add-u : tie.Need-add-u Inv-loop μ-loop

@@ -8,6 +8,7 @@ use native.Mathlib.Numerals.{add-one}
 use lib.ListN.{length, take, drop, set, length-map, length-set}
 use lib.Seq.{sets, sets-eq}
 use borrow.Author.Needs.{needs}
+use Rattle.plan.specs.Bounds.{maxRecords}
 use Rattle.plan.specs.Plan.{Belt, planOf, beltAt, leaving}
 use Rattle.plan.specs.Reading.{IsBelt, nextBelt, beltsFrom}
 use Rattle.plan.specs.Adjacency.{arcOf}
@@ -66,7 +67,7 @@ free c =
     omega (arith, c .before .before .loop .inv .1, c .before .before .loop .inv .3, c .before .before .before .before .before .before .pre .3)
 
 -- its number and where it leads fit
-name-low : (c : tie.Then1 Inv-loop μ-loop) → c .before .before .loop .belt .0 < 2048
+name-low : (c : tie.Then1 Inv-loop μ-loop) → c .before .before .loop .belt .0 < maxRecords
 name-low c = belt-low (c .before .before .before .before .before .before .pre .0) (c .before .before .loop .belt .0) (belt-is c) .2
 
 leads-low : (c : tie.After-leads-to Inv-loop μ-loop) → c .leads-to .result < 65536

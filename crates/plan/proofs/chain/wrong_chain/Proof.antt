@@ -6,6 +6,7 @@ use borrow.Author.Needs.{needs}
 use native.Mathlib.Omega.{arith}
 use native.Mathlib.Numerals.{add-one}
 use lib.Dec.{eqb}
+use Rattle.plan.specs.Bounds.{maxRecords}
 use Rattle.plan.specs.Lists.{any, upto}
 use Rattle.plan.specs.Records.{records, junctions, links}
 use Rattle.plan.specs.Refusals.{pointers, broken4}
@@ -65,7 +66,7 @@ returns-2 c =
     let lo = ap (λ j. j + 1) (c .before .index .ensures .0) ∙ add-one (junctions p) in
     c .unmet .ensures
     ∙ (λ i. any (λ r. not (markedOnce (seen i) r)) (upto (lo i) (n i)))
-    ∙ unmet-same (links p) 2048 (suc (junctions p)) (records p) (omega arith)
+    ∙ unmet-same (links p) maxRecords (suc (junctions p)) (records p) (omega arith)
     ∙ sym
     (ap (λ t. t || any (λ r. not (eqb (pointers (links p) r) 1)) (upto (suc (junctions p)) (records p)))
     (sym (all .follow-all .ensures .0) ∙ test))

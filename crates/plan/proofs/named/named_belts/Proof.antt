@@ -9,6 +9,7 @@ use native.Mathlib.Omega.{arith}
 use native.Mathlib.Numerals.{add-one}
 use lib.ListN.{length, getD, replicate}
 use lib.Seq.{sets}
+use Rattle.plan.specs.Bounds.{maxNamed, maxRecords}
 use Rattle.plan.specs.Lists.{keep, upto}
 use Rattle.plan.specs.Plan.{planOf, named, beltId, listed}
 use Rattle.plan.specs.Inner.{markedOnce}
@@ -43,10 +44,10 @@ loop-holds c =
     let p = start .args .p .now in
     let e = kept-named p (accepted-passed p (start .pre .unrefused) .0) _ _ (c .before .before .note-named .ensures) (c .records .ensures .0) in
     let size = ap length e in
-    (omega arith, ap (λ ns. sets (replicate 48 (beltId 0)) 0 (map beltId ns)) e ∙ listed-sets (named (planOf p)) (few-named p (accepted-passed p (start .pre .unrefused) .1)))
+    (omega arith, ap (λ ns. sets (replicate maxNamed (beltId 0)) 0 (map beltId ns)) e ∙ listed-sets (named (planOf p)) (few-named p (accepted-passed p (start .pre .unrefused) .1)))
 
 -- a record below n has an index below 2,048
-small : (c : tie.In-loop Inv-loop μ-loop) → c .before .loop .e < 2048
+small : (c : tie.In-loop Inv-loop μ-loop) → c .before .loop .e < maxRecords
 small c =
     let start = c .before .before .before .before .before .before .before in
     omega (arith, c .loop-test .taken, c .before .before .records .ensures .0, few _ (accepted-passed _ (start .pre .unrefused) .0 .0 .0 .0))
@@ -58,7 +59,7 @@ cast-t15 : tie.Need-cast-t15 Inv-loop μ-loop
 cast-t15 c = omega (arith, small (c .before))
 
 -- there is room for one more
-free : (c : tie.Then1 Inv-loop μ-loop) → c .before .before .loop .count < 48
+free : (c : tie.Then1 Inv-loop μ-loop) → c .before .before .loop .count < maxNamed
 free c =
     let start = c .before .before .before .before .before .before .before .before in
     let marks = c .before .before .before .before .before .note-named .last .1 .0 in

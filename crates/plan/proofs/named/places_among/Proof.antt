@@ -7,6 +7,7 @@ use native.Mathlib.Omega.{arith}
 use native.Mathlib.Numerals.{add-one}
 use lib.ListN.{length, getD, drop, set, drop-of-length-le}
 use lib.Seq.{drop-cons}
+use Rattle.plan.specs.Bounds.{maxNamed, maxRecords}
 use Rattle.plan.specs.declared.read.BeltId.{BeltId}
 use Rattle.plan.specs.Plan.{planOf, named, placesOf, beltId}
 use Rattle.plan.proofs.Forms.{few}
@@ -33,7 +34,7 @@ loop-holds c =
     ap (λ (l : List ℕ). numbered l 0 (named (planOf p))) (c .pre .3) ∙ numbered-places (named (planOf p)) (named-rises p)
 
 -- a turn: the belt that is next is named, and there are at most 48
-below : (c : tie.In-loop Inv-loop μ-loop) → let start = c .before .before in (c .before .loop .k < 48) × (c .before .loop .k < length (named (planOf (start .args .p .now))))
+below : (c : tie.In-loop Inv-loop μ-loop) → let start = c .before .before in (c .before .loop .k < maxNamed) × (c .before .loop .k < length (named (planOf (start .args .p .now))))
 below c =
     let start = c .before .before in
     let size = start .pre .1 in
@@ -47,7 +48,7 @@ is c =
     let k = c .before .loop .k in
     ap (λ (e : BeltId). e .0) (ap (λ (l : List BeltId). getD l k (beltId 0)) (start .pre .2) ∙ listed-at (named (planOf (start .args .p .now))) k (below c .1))
 
-low : (c : tie.In-loop Inv-loop μ-loop) → getD (c .before .before .args .t2 .belts) (c .before .loop .k) (beltId 0) .0 < 2048
+low : (c : tie.In-loop Inv-loop μ-loop) → getD (c .before .before .args .t2 .belts) (c .before .loop .k) (beltId 0) .0 < maxRecords
 low c =
     let start = c .before .before in
     let p = start .args .p .now in

@@ -5,6 +5,7 @@ use native.Mathlib.Omega.{arith}
 use lib.ListN.{length}
 use lib.Dec.{ltb}
 use Rattle.plan.specs.Lists.{count, upto}
+use Rattle.plan.specs.Bounds.{maxRecords, maxNamed}
 use Rattle.plan.specs.Inner.{markedOnce, notes}
 use Rattle.plan.specs.Refusals.{broken7}
 use Rattle.plan.proofs.Forms.{few, sized}
@@ -17,6 +18,9 @@ slice-aggregate-note-named c = search needs
 
 note-named-requires : tie.Need-note-named-requires
 note-named-requires c κs = search needs
+
+cast-result : tie.Need-cast-result
+cast-result c = search needs
 
 slice-aggregate-count-marks : tie.Need-slice-aggregate-count-marks
 slice-aggregate-count-marks c = search needs
@@ -34,7 +38,7 @@ count-marks-requires c κs =
     let noted = c .before .before .before in
     let start = noted .before .before .before in
     let p = start .args .p .now in
-    let size : length (noted .note-named .last .1 .0) ≡ 2048 = ap length (marks-are noted) ∙ length-notes p in
+    let size : length (noted .note-named .last .1 .0) ≡ maxRecords = ap length (marks-are noted) ∙ length-notes p in
     omega (arith, few p (start .pre .0 .0 .0), c .records .ensures .0)
 
 returns : tie.Need-returns
@@ -43,7 +47,7 @@ returns c =
     let noted = c .before .before .before .before in
     let start = noted .before .before .before in
     let p = start .args .p .now in
-    ap (ltb 48) (c .count-marks .ensures ∙ (λ i. count (markedOnce (marks-are noted i)) (upto 0 (c .before .records .ensures .0 i))) ∙ sym (named-count p (start .pre)))
+    ap (ltb maxNamed) (c .count-marks .ensures ∙ (λ i. count (markedOnce (marks-are noted i)) (upto 0 (c .before .records .ensures .0 i))) ∙ sym (named-count p (start .pre)))
 
 pub many-named-spec : {M : Type 1} → statement M
 many-named-spec =
@@ -51,6 +55,7 @@ many-named-spec =
     (tie.spec
     slice-aggregate-note-named
     note-named-requires
+    cast-result
     slice-aggregate-count-marks
     records-requires
     count-marks-requires

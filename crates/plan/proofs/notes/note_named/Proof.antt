@@ -7,6 +7,7 @@ use borrow.Author.Needs.{needs}
 use native.Mathlib.Omega.{arith}
 use native.Mathlib.Numerals.{add-one}
 use lib.ListN.{length, set}
+use Rattle.plan.specs.Bounds.{maxRecords}
 use Rattle.plan.specs.Lists.{upto}
 use Rattle.plan.specs.Records.{field, junctions, records}
 use Rattle.plan.specs.Inner.{namesBelt, note, noted}
@@ -17,7 +18,7 @@ use Rattle.plan.proofs.notes.note_named.Tie as tie
 
 abbrev Inv-loop : tie.InvT-loop
 Inv-loop p marks₀ n l₀ marks l =
-    (n ≡ records p) × (junctions p < l) × (length marks ≡ 2048) × (noted p marks (upto l n) ≡ noted p marks₀ (upto (suc (junctions p)) (records p)))
+    (n ≡ records p) × (junctions p < l) × (length marks ≡ maxRecords) × (noted p marks (upto l n) ≡ noted p marks₀ (upto (suc (junctions p)) (records p)))
 
 abbrev μ-loop : tie.MeasureT-loop
 μ-loop p marks₀ n l₀ marks l = n - l

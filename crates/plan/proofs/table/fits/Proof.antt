@@ -9,8 +9,14 @@ use Rattle.plan.proofs.Forms.{kinds, fits-as, other-fits}
 use Rattle.plan.proofs.table.fits.Statement.{statement}
 use Rattle.plan.proofs.table.fits.Tie as tie
 
+cast-ranged : tie.Need-cast-ranged
+cast-ranged c = search needs
+
 ranged-requires : tie.Need-ranged-requires
 ranged-requires c κs = search needs
+
+cast-ranged-2 : tie.Need-cast-ranged-2
+cast-ranged-2 c = search needs
 
 ranged-requires-2 : tie.Need-ranged-requires-2
 ranged-requires-2 c κs = search needs
@@ -118,7 +124,9 @@ pub fits-spec : {M : Type 1} → statement M
 fits-spec =
     tie.close
     (tie.spec
+    cast-ranged
     ranged-requires
+    cast-ranged-2
     ranged-requires-2
     both-requires
     zero-requires
