@@ -18,7 +18,7 @@ use Rattle.plan.specs.Reading.{Accepted}
 use Rattle.plan.proofs.First.{on-broken, on-unbroken, passed}
 use Rattle.plan.proofs.Forms.{there, header}
 
-pub unbroken : (b : List ℕ) → refusal b ≡ 0 → Unbroken planLines b
+unbroken : (b : List ℕ) → refusal b ≡ 0 → Unbroken planLines b
 unfolding refusal
 unbroken b e = passed planLines b refl e
 

@@ -6,6 +6,7 @@
 --   leads                a chain index is zero or leads to a larger index, of the right kind
 --   chain-end, chain-step
 --                        a chain is its first record and the chain from the next one on
+--   chain-few            it has no more records than the plan
 --   chain-in, chain-rises
 --                        the kind of what stands on a chain, and that the chain rises
 --   reached              every item stands on a chain
@@ -22,6 +23,7 @@ use mathlib.Core.Bool.{Bool, true, false}
 use Prim.Native.Nat.{ℕ, zero, suc, _≤_, _<_}
 use mathlib.Core.List.{List, [], _∷_, map, List·Memᴰ, List·Memᴰ·head, List·Memᴰ·tail, List·Memᴰ·not-nil, List·Memᴰ·cases-cons, Memᴰ·cast}
 use native.Mathlib.Omega.{arith}
+use lib.ListN.{length}
 use lib.Dec.{eqb, leb}
 use borrow.Author.Tests.{eqb-true, eq-eqb, leb-true, leb-false}
 use Rattle.plan.specs.Lists.{keep, mem, upto}
@@ -147,6 +149,15 @@ chain-end b = go (records b)
     go : (n : ℕ) → chainOf (λ (r : ℕ). field b r 1) n 0 ≡ []
     go zero = refl
     go (suc n) = refl
+
+-- a chain has no more records than the plan
+pub chain-few : (b : List ℕ) (i : ℕ) → length (chain b i) ≤ records b
+chain-few b = go (records b)
+  where
+    go : (n i : ℕ) → length (chainOf (λ (r : ℕ). field b r 1) n i) ≤ n
+    go zero i = omega arith
+    go (suc n) zero = omega arith
+    go (suc n) (suc i) = omega (arith, go n (field b (suc i) 1))
 
 -- xs is the whole chain of records of kind k from i on
 abbrev pub Chained : List ℕ → ℕ → ℕ → List ℕ → Type 0

@@ -1,4 +1,6 @@
--- Laws, each file after those that it rests on. The layers above go by Reading, Naming, Places, Arcs, Numbers and Writing; the claims are proved in Claims.
+-- Laws, each file after those that it rests on. The layers above go by these: Reading, Naming, Places, Arcs and Numbers, about plans;
+-- Writing, about records; First, about lists of refusal lines; Lists, Counts and Rising, about any lists. The others are behind them;
+-- the claims are proved in Claims.
 pub mod Lists
 pub mod Counts
 pub mod Rising

@@ -26,7 +26,6 @@ use Rattle.plan.specs.Claims.{Unbroken}
 use Rattle.plan.specs.Reading.{Accepted}
 use Rattle.plan.proofs.Lists.{and-is, is-within}
 use Rattle.plan.proofs.First.{front-first, on-broken, past, none-broken, first-exactly, passed, first-about, unbroken-about, about-unbroken}
-use Rattle.plan.proofs.Accepted.{unbroken}
 use Rattle.route.specs.Refusals.{PlanTrip, Case, planTrip, broken8, broken11, broken12, broken13, broken14, line8, tripLines, sheetLines, checkLines, sheetRefusal}
 use Rattle.route.specs.declared.sheet.Sheet.{Sheet}
 use Rattle.route.specs.Routes.{wrongEnds, connects, cost, beltsByName}
@@ -49,7 +48,8 @@ abbrev front : List (Line PlanTrip)
 front = map (about (λ (k : PlanTrip). k .plan)) planLines
 
 front-unbroken : (k : PlanTrip) → Accepted (k .plan) → Unbroken front k
-front-unbroken k ok = unbroken-about (λ (k : PlanTrip). k .plan) planLines k (unbroken (k .plan) (ok .unrefused))
+unfolding refusal
+front-unbroken k ok = unbroken-about (λ (k : PlanTrip). k .plan) planLines k (passed planLines (k .plan) refl (ok .unrefused))
 
 module _ (k : PlanTrip) where
   pub trip-accepted : Unbroken tripLines k → Accepted (k .plan)

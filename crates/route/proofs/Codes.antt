@@ -22,13 +22,12 @@ use Rattle.plan.specs.declared.read.Literal.{Literal}
 use Rattle.plan.specs.declared.read.Literal.the-variants.{OfBelt, OfMode}
 use Rattle.plan.specs.declared.named.Place.the-variants.{At}
 use Rattle.plan.specs.Lists.{count}
-use Rattle.plan.specs.Plan.{planOf, literalAt, ruleAt, beltAt, named, names, inRule, codePlace}
+use Rattle.plan.specs.Plan.{planOf, literalAt, beltAt, named, names, inRule, codePlace}
 use Rattle.plan.specs.Reading.{Accepted, IsLiteral}
-use Rattle.plan.proofs.Lists.{in-any, in-map}
-use Rattle.plan.proofs.Chains.{literal-reached}
+use Rattle.plan.proofs.Lists.{in-any}
 use Rattle.plan.proofs.Naming.{in-named, named-rises}
 use Rattle.plan.proofs.Places.{at-place, place-in, place-is}
-use Rattle.plan.proofs.Reading.{literal-belt, literal-mode, belt-in, belt-low, named-few, plan-sizes, links, rule-in}
+use Rattle.plan.proofs.Reading.{literal-belt, literal-mode, belt-in, belt-low, named-few, plan-sizes, literal-in}
 use Rattle.route.specs.Permission.{holds}
 use Rattle.route.specs.Values.{inMask, OfNamed, namedPlaces, hasBelt, codeBy, codeIn}
 use Rattle.route.specs.Inner.{Codable, isTrue}
@@ -102,14 +101,8 @@ module _ {b : List ℕ} (ok : Accepted b) where
         (belt-low ok (e .0) (literal-belt ok rule m e w k) .2, omega arith, omega (arith, named-few ok))
     codable-in (OfMode n w) k = omega (arith, literal-mode ok rule m n w k .1, plan-sizes ok .2)
 
-  -- every literal is one of a rule of the plan
-  literal-in : (l : ℕ) → IsLiteral b l → (rule : List Literal) × List·Memᴰ rule (planOf b .rules) × List·Memᴰ (literalAt b l) rule
-  literal-in l o =
-      let (r, i, k) = literal-reached (links ok) l o in
-      (ruleAt b r, rule-in ok r i, in-map (literalAt b) k)
-
   pub literal-codable : (l : ℕ) → IsLiteral b l → Codable (namedPlaces b) (literalAt b l)
-  literal-codable l o = let (rule, m, k) = literal-in l o in codable-in m (literalAt b l) k
+  literal-codable l o = let (rule, m, k) = literal-in ok l o in codable-in m (literalAt b l) k
 
   -- ---- what they say
 
@@ -139,4 +132,4 @@ module _ {b : List ℕ} (ok : Accepted b) where
 
     pub literal-true : (σ l : ℕ) → IsLiteral b l
         → isTrue (assigned belts σ) (codeIn (namedPlaces b) (literalAt b l)) ≡ holds (hasBelt b belts) σ (literalAt b l)
-    literal-true σ l o = let (rule, m, k) = literal-in l o in true-in σ m (literalAt b l) k
+    literal-true σ l o = let (rule, m, k) = literal-in ok l o in true-in σ m (literalAt b l) k

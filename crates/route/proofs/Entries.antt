@@ -1,9 +1,8 @@
 -- The clauses of a plan, entry by entry: what each is, and how they are stored along the chains.
 --
 --   stores-at         after storing, a place of the list has what is stored there, and any other what it had; stores-append: one list after another
---   rule-low, literal-low, next-rule-low, first-literal-low, next-literal-low
---                     rules and literals, and what a record of them leads to, are below 2,048
---   some-records      there is a record 0
+--   next-rule-low, first-literal-low, next-literal-low
+--                     what a record of a rule or a literal leads to is below 2,048
 --   rule-entry, literal-entry
 --                     the entry of a rule, and of a literal
 --   first-entry, rule-parts, literal-parts
@@ -28,19 +27,17 @@ use mathlib.Core.Bool.{Bool, true, false, _||_}
 use Prim.Native.Nat.{ℕ, zero, suc, _+_, _*_, _-_, _/_, _%_, _≤_, _<_}
 use mathlib.Core.List.{List, [], _∷_, _++_, List·Memᴰ, List·Memᴰ·head, List·Memᴰ·tail}
 use native.Mathlib.Omega.{arith}
-use lib.ListN.{length, getD, set, replicate, length-set, length-map, length-replicate, getD-replicate, List·getD-eq-default}
+use lib.ListN.{length, getD, set, replicate, length-set, length-map, length-replicate, getD-replicate}
 use lib.Seq.{getD-set-same, getD-set-other}
-use lib.Dec.{eqb, ltb}
-use borrow.Author.Tests.{eqb-true, eqb-false, eq-eqb, ne-eqb, ltb-true, ltb-false}
+use lib.Dec.{eqb}
+use borrow.Author.Tests.{eqb-true, eqb-false}
 use Rattle.plan.specs.Lists.{mem, joined, run}
-use Rattle.plan.specs.Records.{kind, records, IsKind, chain}
+use Rattle.plan.specs.Records.{records}
 use Rattle.plan.specs.Plan.{literalAt}
-use Rattle.plan.specs.Limits.{Limits}
-use Rattle.plan.specs.Reading.{Accepted, IsRule, IsLiteral, firstRule, nextRule, firstLiteral, nextLiteral}
+use Rattle.plan.specs.Reading.{Accepted, IsRule, IsLiteral, isRuleAt, isLiteralAt, firstRule, nextRule, firstLiteral, nextLiteral, ruleChain, literalChain}
 use Rattle.plan.proofs.Lists.{test, never, untrue, in-mem, in-joined, length-run, getD-first, map-first}
-use Rattle.plan.proofs.Chains.{chain-end, rule-step, literal-step, rule-reached, literal-reached}
-use Rattle.plan.proofs.Limits.{accepted-limits}
-use Rattle.plan.proofs.Reading.{first-rule-is, next-rule-is, first-literal-is, next-literal-is, links}
+use Rattle.plan.proofs.Reading.{first-rule-is, next-rule-is, first-literal-is, next-literal-is, rule-chain-end, rule-chain-next, literal-chain-end, literal-chain-next}
+use Rattle.plan.proofs.Reading.{records-more, rule-test, literal-test, not-rule, rule-low, literal-low, rule-on-chain, literal-on-chain}
 use Rattle.route.specs.Values.{namedPlaces, codeIn, ruleEntry, literalEntry, entryBy, entryOf, clausesIn, Clauses}
 use Rattle.route.specs.Inner.{stores}
 
@@ -102,42 +99,26 @@ parts : (x y n : ℕ) → n ≡ x + 65536 * y → x < 2048 → (n % 65536 ≡ x)
 parts x y n e h = (omega arith, omega arith)
 
 module _ {b : List ℕ} (ok : Accepted b) where
-  limits : Limits b
-  limits = accepted-limits b (ok .unrefused)
-
-  pub some-records : 0 < records b
-  some-records = omega (arith, limits .header .room)
-
-  kind-low : {k i : ℕ} → IsKind b k i → i < 2048
-  kind-low o = omega (arith, o .0, limits .sizes .few)
-
-  pub rule-low : (r : ℕ) → IsRule b r → r < 2048
-  rule-low r o = kind-low o
-
-  pub literal-low : (l : ℕ) → IsLiteral b l → l < 2048
-  literal-low l o = kind-low o
-
   pub next-rule-low : (r : ℕ) → IsRule b r → nextRule b r < 2048
-  next-rule-low r o = below (nextRule b r) (λ d. kind-low (next-rule-is ok r o d .1))
+  next-rule-low r o = below (nextRule b r) (λ d. rule-low ok (nextRule b r) (next-rule-is ok r o d .1) .2)
 
   pub first-literal-low : (r : ℕ) → IsRule b r → firstLiteral b r < 2048
-  first-literal-low r o = below (firstLiteral b r) (λ d. kind-low (first-literal-is ok r o d))
+  first-literal-low r o = below (firstLiteral b r) (λ d. literal-low ok (firstLiteral b r) (first-literal-is ok r o d) .2)
 
   pub next-literal-low : (l : ℕ) → IsLiteral b l → nextLiteral b l < 2048
-  next-literal-low l o = below (nextLiteral b l) (λ d. kind-low (next-literal-is ok l o d .1))
+  next-literal-low l o = below (nextLiteral b l) (λ d. literal-low ok (nextLiteral b l) (next-literal-is ok l o d .1) .2)
 
   rule-entry : (r : ℕ) → IsRule b r → entryOf b r ≡ ruleEntry b r
   unfolding entryOf
-  rule-entry zero o = absurd (omega (arith, o .1, limits .header .kind-7))
+  rule-entry zero o = absurd (omega (arith, rule-low ok 0 o .0))
   rule-entry (suc r) o =
-      ap (λ (t : Bool). entryBy t (eqb (kind b (suc r)) 4) (ruleEntry b (suc r)) (literalEntry b (suc r))) (eq-eqb (kind b (suc r)) 3 (o .1))
+      ap (λ (t : Bool). entryBy t (isLiteralAt b (suc r)) (ruleEntry b (suc r)) (literalEntry b (suc r))) (rule-test b (suc r) .1 o)
 
   literal-entry : (l : ℕ) → IsLiteral b l → entryOf b l ≡ literalEntry b l
   unfolding entryOf
-  literal-entry zero o = absurd (omega (arith, o .1, limits .header .kind-7))
+  literal-entry zero o = absurd (omega (arith, literal-low ok 0 o .0))
   literal-entry (suc l) o =
-      let no : eqb (kind b (suc l)) 3 ≡ false = ne-eqb (kind b (suc l)) 3 (λ e. omega (arith, o .1)) in
-      λ i. entryBy (no i) (eq-eqb (kind b (suc l)) 4 (o .1) i) (ruleEntry b (suc l)) (literalEntry b (suc l))
+      λ i. entryBy (not-rule b (suc l) o i) (literal-test b (suc l) .1 o i) (ruleEntry b (suc l)) (literalEntry b (suc l))
 
   module _ {clauses : List ℕ} (all : Clauses b clauses) where
     entry-in : (i : ℕ) → i < records b → getD clauses i 0 ≡ entryOf b i
@@ -145,24 +126,24 @@ module _ {b : List ℕ} (ok : Accepted b) where
 
     pub first-entry : getD clauses 0 0 ≡ firstRule b
     unfolding entryOf
-    first-entry = entry-in 0 some-records
+    first-entry = entry-in 0 (omega (arith, records-more ok))
 
     pub rule-parts : (r : ℕ) → IsRule b r → (getD clauses r 0 % 65536 ≡ nextRule b r) × (getD clauses r 0 / 65536 ≡ firstLiteral b r)
     rule-parts r o =
         parts (nextRule b r) (firstLiteral b r) (getD clauses r 0)
-        (entry-in r (o .0) ∙ rule-entry r o) (next-rule-low r o)
+        (entry-in r (rule-low ok r o .1) ∙ rule-entry r o) (next-rule-low r o)
 
     pub literal-parts : (l : ℕ) → IsLiteral b l
         → (getD clauses l 0 % 65536 ≡ nextLiteral b l) × (getD clauses l 0 / 65536 ≡ codeIn (namedPlaces b) (literalAt b l))
     literal-parts l o =
         parts (nextLiteral b l) (codeIn (namedPlaces b) (literalAt b l)) (getD clauses l 0)
-        (entry-in l (o .0) ∙ literal-entry l o) (next-literal-low l o)
+        (entry-in l (literal-low ok l o .1) ∙ literal-entry l o) (next-literal-low l o)
 
 -- ---- the literals of a rule, one after the other
 
 pub record LiteralsStored (b old : List ℕ) (first : ℕ) (now : List ℕ) (l : ℕ) : Type 0 where
   pub is-literal : (l ≡ 0 → ⊥) → IsLiteral b l
-  pub whole : stores (entryOf b) now (chain b l) ≡ stores (entryOf b) old (chain b first)
+  pub whole : stores (entryOf b) now (literalChain b l) ≡ stores (entryOf b) old (literalChain b first)
 
 module _ {b : List ℕ} (ok : Accepted b) where
   pub literals-start : (old : List ℕ) (r : ℕ) → IsRule b r → (l : ℕ) → l ≡ firstLiteral b r → LiteralsStored b old l old l
@@ -173,10 +154,10 @@ module _ {b : List ℕ} (ok : Accepted b) where
     pub literals-size : length now ≡ length old
     literals-size =
         let f = entryOf b in
-        sym (length-stores f now (chain b l)) ∙ ap length (h .whole) ∙ length-stores f old (chain b first)
+        sym (length-stores f now (literalChain b l)) ∙ ap length (h .whole) ∙ length-stores f old (literalChain b first)
 
-    pub literals-end : l ≡ 0 → now ≡ stores (entryOf b) old (chain b first)
-    literals-end e = sym (ap (stores (entryOf b) now) (ap (chain b) e ∙ chain-end b)) ∙ h .whole
+    pub literals-end : l ≡ 0 → now ≡ stores (entryOf b) old (literalChain b first)
+    literals-end e = sym (ap (stores (entryOf b) now) (ap (literalChain b) e ∙ literal-chain-end ok)) ∙ h .whole
 
     pub literals-stored : (d : l ≡ 0 → ⊥) (n : ℕ) → n ≡ nextLiteral b l → {places : List ℕ} → places ≡ namedPlaces b
         → (c : ℕ) → c ≡ codeIn places (literalAt b l) → LiteralsStored b old first (set now l (n + 65536 * c)) n
@@ -186,59 +167,42 @@ module _ {b : List ℕ} (ok : Accepted b) where
         let entry : n + 65536 * c ≡ entryOf b l = (λ i. s i + 65536 * code i) ∙ sym (literal-entry ok l o) in
         record {
           is-literal = λ z. subst (IsLiteral b) (sym s) (next-literal-is ok l o (λ e. z (s ∙ e)) .1);
-          whole = (λ i. stores (entryOf b) (set now l (entry i)) (chain b (s i)))
-              ∙ sym (ap (stores (entryOf b) now) (literal-step (links ok) l o))
+          whole = (λ i. stores (entryOf b) (set now l (entry i)) (literalChain b (s i)))
+              ∙ sym (ap (stores (entryOf b) now) (literal-chain-next ok l o))
               ∙ h .whole;
         }
 
 -- ---- the rules, one after the other
 
 abbrev recordsOf : List ℕ → ℕ → List ℕ
-recordsOf b r = r ∷ chain b (firstLiteral b r)
+recordsOf b r = r ∷ literalChain b (firstLiteral b r)
 
 abbrev recordsFrom : List ℕ → ℕ → List ℕ
-recordsFrom b r = joined (recordsOf b) (chain b r)
+recordsFrom b r = joined (recordsOf b) (ruleChain b r)
 
 pub record RulesStored (b : List ℕ) (n : ℕ) (now : List ℕ) (r : ℕ) : Type 0 where
   pub is-rule : (r ≡ 0 → ⊥) → IsRule b r
   pub whole : stores (entryOf b) now (recordsFrom b r) ≡ stores (entryOf b) (replicate n 0) (0 ∷ recordsFrom b (firstRule b))
 
--- behind the records there are only zeros
-past-kind : (b : List ℕ) → Limits b → (i : ℕ) → records b ≤ i → kind b i ≡ 0
-past-kind b h i l =
-    let high : getD b (12 * i + 2 * 0) 0 ≡ 0 = List·getD-eq-default b 0 (omega (arith, h .sizes .whole)) in
-    let low : getD b (12 * i + 2 * 0 + 1) 0 ≡ 0 = List·getD-eq-default b 0 (omega (arith, h .sizes .whole)) in
-    omega arith
-
 module _ {b : List ℕ} (ok : Accepted b) where
-  -- so what has a kind is a record
-  is-kind : (k i : ℕ) → (k ≡ 0 → ⊥) → kind b i ≡ k → IsKind b k i
-  is-kind k i d e = (go (test (ltb i (records b))), e)
-    where
-      go : (ltb i (records b) ≡ true) ⊎ (ltb i (records b) ≡ false) → i < records b
-      go (inl t) = ltb-true i (records b) t
-      go (inr t) = absurd (d (sym e ∙ past-kind b (limits ok) i (ltb-false i (records b) t)))
-
   abbrev stored : List ℕ
   stored = 0 ∷ recordsFrom b (firstRule b)
 
   rule-stored : (r : ℕ) → IsRule b r → List·Memᴰ r stored
-  rule-stored r o = List·Memᴰ·tail (in-joined (recordsOf b) (rule-reached (links ok) r o) (List·Memᴰ·head refl))
+  rule-stored r o = List·Memᴰ·tail (in-joined (recordsOf b) (rule-on-chain ok r o) (List·Memᴰ·head refl))
 
   literal-stored : (l : ℕ) → IsLiteral b l → List·Memᴰ l stored
   literal-stored l o =
-      let (r, i, k) = literal-reached (links ok) l o in
-      List·Memᴰ·tail (in-joined (recordsOf b) (rule-reached (links ok) r i) (List·Memᴰ·tail k))
+      let (r, i, k) = literal-on-chain ok l o in
+      List·Memᴰ·tail (in-joined (recordsOf b) (rule-on-chain ok r i) (List·Memᴰ·tail k))
 
   -- what is not stored has no entry
   unstored : (i : ℕ) → mem i stored ≡ false → entryOf b i ≡ 0
   unfolding entryOf
   unstored zero h = absurd (never (in-mem stored (List·Memᴰ·head refl)) h)
   unstored (suc i) h =
-      let rule : eqb (kind b (suc i)) 3 ≡ false = untrue (eqb (kind b (suc i)) 3) (λ t.
-      never (in-mem stored (rule-stored (suc i) (is-kind 3 (suc i) (λ e. omega arith) (eqb-true (kind b (suc i)) 3 t)))) h) in
-      let literal : eqb (kind b (suc i)) 4 ≡ false = untrue (eqb (kind b (suc i)) 4) (λ t.
-      never (in-mem stored (literal-stored (suc i) (is-kind 4 (suc i) (λ e. omega arith) (eqb-true (kind b (suc i)) 4 t)))) h) in
+      let rule = untrue (isRuleAt b (suc i)) (λ t. never (in-mem stored (rule-stored (suc i) (rule-test b (suc i) .0 t))) h) in
+      let literal = untrue (isLiteralAt b (suc i)) (λ t. never (in-mem stored (literal-stored (suc i) (literal-test b (suc i) .0 t))) h) in
       λ j. entryBy (rule j) (literal j) (ruleEntry b (suc i)) (literalEntry b (suc i))
 
   all-stored : (n : ℕ) → stores (entryOf b) (replicate n 0) stored ≡ clausesIn n b
@@ -268,10 +232,10 @@ module _ {b : List ℕ} (ok : Accepted b) where
 
     pub rules-end : r ≡ 0 → now ≡ clausesIn n b
     rules-end e =
-        sym (ap (λ (is : List ℕ). stores (entryOf b) now (joined (recordsOf b) is)) (ap (chain b) e ∙ chain-end b)) ∙ h .whole ∙ all-stored n
+        sym (ap (λ (is : List ℕ). stores (entryOf b) now (joined (recordsOf b) is)) (ap (ruleChain b) e ∙ rule-chain-end ok)) ∙ h .whole ∙ all-stored n
 
     pub rules-stored : (d : r ≡ 0 → ⊥) (m l : ℕ) → m ≡ nextRule b r → l ≡ firstLiteral b r
-        → (put : List ℕ) → put ≡ stores (entryOf b) (set now r (m + 65536 * l)) (chain b (firstLiteral b r)) → RulesStored b n put m
+        → (put : List ℕ) → put ≡ stores (entryOf b) (set now r (m + 65536 * l)) (literalChain b (firstLiteral b r)) → RulesStored b n put m
     rules-stored d m l s q put w =
         let o = h .is-rule d in
         let f = entryOf b in
@@ -279,8 +243,8 @@ module _ {b : List ℕ} (ok : Accepted b) where
         record {
           is-rule = λ z. subst (IsRule b) (sym s) (next-rule-is ok r o (λ e. z (s ∙ e)) .1);
           whole = (λ i. stores f (w i) (recordsFrom b (s i)))
-              ∙ (λ i. stores f (stores f (set now r (entry i)) (chain b (firstLiteral b r))) (recordsFrom b (nextRule b r)))
-              ∙ sym (stores-append f (set now r (f r)) (chain b (firstLiteral b r)) (recordsFrom b (nextRule b r)))
-              ∙ sym (ap (λ (is : List ℕ). stores f now (joined (recordsOf b) is)) (rule-step (links ok) r o))
+              ∙ (λ i. stores f (stores f (set now r (entry i)) (literalChain b (firstLiteral b r))) (recordsFrom b (nextRule b r)))
+              ∙ sym (stores-append f (set now r (f r)) (literalChain b (firstLiteral b r)) (recordsFrom b (nextRule b r)))
+              ∙ sym (ap (λ (is : List ℕ). stores f now (joined (recordsOf b) is)) (rule-chain-next ok r o))
               ∙ h .whole;
         }

@@ -52,9 +52,9 @@ use Rattle.plan.specs.declared.read.Literal.the-variants.{OfBelt, OfMode}
 use Rattle.plan.specs.declared.named.Place.{Place}
 use Rattle.plan.specs.declared.named.Place.the-variants.{At, Unnamed}
 use Rattle.plan.specs.Lists.{keep, upto}
-use Rattle.plan.specs.Records.{kind, records}
+use Rattle.plan.specs.Records.{records}
 use Rattle.plan.specs.Plan.{Belt, planOf, literalAt, namesOf, leaving, named, beltId, listed, placeOf, placesOf, placeIn}
-use Rattle.plan.specs.Reading.{IsBelt, firstRule, nextRule, firstLiteral, nextLiteral}
+use Rattle.plan.specs.Reading.{IsBelt, isRuleAt, isLiteralAt, firstRule, nextRule, firstLiteral, nextLiteral}
 use Rattle.route.specs.declared.path.Route.{Route}
 use Rattle.route.specs.declared.sheet.Sheet.{Sheet}
 use Rattle.route.specs.declared.modes.Lowest.{Lowest}
@@ -179,10 +179,9 @@ entryBy true t rule literal = rule
 entryBy false true rule literal = literal
 entryBy false false rule literal = 0
 
--- kind 3 is a rule, kind 4 a literal
 unfoldable pub entryOf : List ℕ → ℕ → ℕ
 entryOf b zero = firstRule b
-entryOf b (suc i) = entryBy (eqb (kind b (suc i)) 3) (eqb (kind b (suc i)) 4) (ruleEntry b (suc i)) (literalEntry b (suc i))
+entryOf b (suc i) = entryBy (isRuleAt b (suc i)) (isLiteralAt b (suc i)) (ruleEntry b (suc i)) (literalEntry b (suc i))
 
 unfoldable pub clausesIn : ℕ → List ℕ → List ℕ
 clausesIn n b = map (entryOf b) (upto 0 n)

@@ -8,9 +8,9 @@ use plan::read::Literal;
 use plan::read::RuleId;
 ghost use mathlib.Core.Path.{_≡_};
 ghost use Prim.Native.Nat.{_≤_, _<_};
-ghost use Rattle.plan.specs.Records.{records, chain};
+ghost use Rattle.plan.specs.Records.{records};
 ghost use lib.ListN.{length, replicate};
-ghost use Rattle.plan.specs.Reading.{Accepted, IsRule, firstLiteral};
+ghost use Rattle.plan.specs.Reading.{Accepted, IsRule, firstLiteral, literalChain};
 ghost use Rattle.route.specs.Values.{namedPlaces, codeBy, codeIn, entryOf, clausesIn};
 ghost use Rattle.route.specs.Inner.{Codable, stores};
 
@@ -39,7 +39,7 @@ fn code_of(places: &[u8; MAX_RECORDS], literal: Literal) -> u32
 // Puts the entries of a rule's literals into the array, which has one for each record.
 fn put_literals(p: &[u8], places: &[u8; MAX_RECORDS], clauses: &mut [u32], rule: RuleId)
     requires { ⌜ Accepted (now p) × (now places ≡ namedPlaces (now p)) × IsRule (now p) (rule .0) × (records (now p) ≤ length (now clauses)) ⌝ }
-    ensures { λ v. ⌜ now (clauses .exit) ≡ stores (entryOf (now (p .entry))) (now (clauses .entry)) (chain (now (p .entry)) (firstLiteral (now (p .entry)) (rule .0))) ⌝ }
+    ensures { λ v. ⌜ now (clauses .exit) ≡ stores (entryOf (now (p .entry))) (now (clauses .entry)) (literalChain (now (p .entry)) (firstLiteral (now (p .entry)) (rule .0))) ⌝ }
 {
     let mut literal = read::first_literal(p, rule);
     while literal.0 != 0 {

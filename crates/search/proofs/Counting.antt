@@ -35,7 +35,6 @@ use Rattle.plan.specs.declared.read.Literal.{Literal}
 use Rattle.plan.specs.declared.read.Literal.the-variants.{OfBelt, OfMode}
 use Rattle.plan.specs.declared.named.Place.the-variants.{At}
 use Rattle.plan.specs.Lists.{counted, count, mem, run}
-use Rattle.plan.specs.Records.{records, chainOf}
 use Rattle.plan.specs.Plan.{planOf, literalAt, ruleAt, named, inRule, placeOf, placesOf, placeIn}
 use Rattle.plan.specs.Reading.{Accepted, IsRule, IsLiteral, firstRule, nextRule, firstLiteral, nextLiteral, rulesFrom, literalsFrom}
 use Rattle.plan.proofs.Lists.{test, alike, length-run, getD-run, map-run}
@@ -43,8 +42,7 @@ use Rattle.plan.proofs.Counts.{count-few}
 use Rattle.plan.proofs.Rising.{Rises}
 use Rattle.plan.proofs.Naming.{named-rises}
 use Rattle.plan.proofs.Places.{at-place, place-at, place-in}
-use Rattle.plan.proofs.Limits.{accepted-limits}
-use Rattle.plan.proofs.Reading.{rules-from, rules-end, rules-next, first-rule-is, next-rule-is, belt-low, rule-in, literal-belt, named-few}
+use Rattle.plan.proofs.Reading.{rules-from, rules-end, rules-next, first-rule-is, next-rule-is, belt-low, rule-in, rules-few, literal-belt, named-few}
 use Rattle.plan.proofs.Reading.{literals-end, literals-next, first-literal-is, next-literal-is}
 use Rattle.route.specs.Values.{inMask, namedPlaces, withPlace, gatheredIn}
 use Rattle.route.proofs.Fixed.{gathered-from}
@@ -231,11 +229,6 @@ module _ (m : ℕ) (xs : List ℕ) where
 
 -- ---- all rules
 
-chain-few : (next : ℕ → ℕ) (n i : ℕ) → length (chainOf next n i) ≤ n
-chain-few next zero i = omega arith
-chain-few next (suc n) zero = omega arith
-chain-few next (suc n) (suc i) = omega (arith, chain-few next n (next (suc i)))
-
 -- what a function makes of a list, place by place
 mapped-at : (f : ℕ → ℕ) (xs : List ℕ) (k : ℕ) → k < length xs → getD (map f xs) k 0 ≡ f (getD xs k 0)
 mapped-at f [] k l = absurd (omega arith)
@@ -286,13 +279,6 @@ module _ {b : List ℕ} (ok : Accepted b) where
   abbrev ns : List ℕ
   ns = named (planOf b)
 
-  -- no more rules than records
-  rules-few : length (planOf b .rules) ≤ 2048
-  rules-few =
-      let all = ap length (rules-from ok) in
-      let size = length-map (chainOf (λ (r : ℕ). nextRule b r) (records b) (firstRule b)) (ruleAt b) in
-      omega (arith, chain-few (λ (r : ℕ). nextRule b r) (records b) (firstRule b), accepted-limits b (ok .unrefused) .sizes .few)
-
   pub tallied-start : (n : ℕ) → n ≡ firstRule b → Tallied b n (replicate 48 0)
   tallied-start n e = subst (λ (r : ℕ). Tallied b r (replicate 48 0)) (sym e) (record {
     is-rule = first-rule-is ok;
@@ -305,7 +291,7 @@ module _ {b : List ℕ} (ok : Accepted b) where
   tallied-few {r} {xs} h k = go (test (ltb k (length ns)))
     where
       go : (ltb k (length ns) ≡ true) ⊎ (ltb k (length ns) ≡ false) → getD xs k 0 < 65535
-      go (inl t) = omega (arith, h .whole k (ltb-true k (length ns) t), count-few (inRule (getD ns k 0)) (planOf b .rules), rules-few)
+      go (inl t) = omega (arith, h .whole k (ltb-true k (length ns) t), count-few (inRule (getD ns k 0)) (planOf b .rules), rules-few ok)
       go (inr t) = omega (arith, h .spare k (ltb-false k (length ns) t))
 
   pub tallied-end : {r : ℕ} {xs : List ℕ} → Tallied b r xs → r ≡ 0 → xs ≡ countsOf b .rules

@@ -33,7 +33,7 @@ use Rattle.plan.specs.Reading.{Accepted}
 use Rattle.plan.specs.Claims.{Unbroken, FirstIn}
 use Rattle.plan.proofs.Lists.{both, all-in}
 use Rattle.plan.proofs.First.{first-exactly, passed, none-broken, unbroken-about, about-unbroken}
-use Rattle.plan.proofs.Limits.{limits-accepted, accepted-limits}
+use Rattle.plan.proofs.Reading.{limits, in-limits}
 use Rattle.route.specs.Permission.{Terms, termsOf}
 use Rattle.route.specs.Refusals.{tripLines}
 use Rattle.route.proofs.Checked.{trip-accepted, trip-ends, ends-trip, inside, ends-inside}
@@ -130,7 +130,7 @@ limits-claim k = (to, from)
   where
     to : InLimits k → searchRefusal k ≡ 0
     to h =
-        let ok : Accepted (k .plan) = record { unrefused = limits-accepted (k .plan) (h .plan) } in
+        let ok = in-limits (k .plan) (h .plan) in
         let trip = tripIn (asked k) in
         let ends = ends-trip trip ok (inside trip (h .s-from) (h .s-to) (h .t-from) (h .t-to)) in
         query-zero k (trip-query (asked k) ends (right-query (asked k) (h .pick) (h .order) (h .budget))) (long-buffer k (h .room))
@@ -141,7 +141,7 @@ limits-claim k = (to, from)
         let (a, b, c, d) = ends-inside (tripIn (asked k)) (trip-ends (tripIn (asked k)) (query-trip (asked k) fine)) in
         let (pick, order, budget) = query-right (asked k) (query-9 (asked k) fine) in
         record {
-          plan = accepted-limits (k .plan) (query-accepted (asked k) fine .unrefused);
+          plan = limits (query-accepted (asked k) fine);
           s-from = a;
           s-to = b;
           t-from = c;

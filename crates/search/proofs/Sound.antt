@@ -9,7 +9,7 @@
 --   sound-claim        SoundClaim: this, the depth, the best and the budget in one
 --
 -- Assumes nothing.
-use mathlib.Core.Path.{_≡_, refl, sym, _∙_, ap, subst}
+use mathlib.Core.Path.{_≡_, refl, sym, ap, subst}
 use mathlib.Core.Logic.{_⊎_, inl, inr}
 use mathlib.Core.Bool.{Bool, true, false, not, _||_}
 use mathlib.Core.Option.{Option, none, some}
@@ -20,14 +20,12 @@ use lib.ListN.{length}
 use lib.Dec.{eqb}
 use borrow.Author.Tests.{not-true}
 use Rattle.plan.specs.Lists.{keep, mem}
-use Rattle.plan.specs.Plan.{Belt, Plan, planOf, beltRecords, namesOf, named}
+use Rattle.plan.specs.Plan.{Belt, Plan, planOf, namesOf, named}
 use Rattle.plan.specs.Claims.{Unbroken}
 use Rattle.plan.specs.Reading.{Accepted}
 use Rattle.plan.proofs.Lists.{never, each, keep-in, in-mem}
 use Rattle.plan.proofs.Rising.{Rises, none, more, keep-rises}
-use Rattle.plan.proofs.Chains.{records-rise}
-use Rattle.plan.proofs.Naming.{names-back}
-use Rattle.plan.proofs.Reading.{named-few}
+use Rattle.plan.proofs.Reading.{belts-rise, named-few}
 use Rattle.route.specs.Subproblems.{Subproblem, relaxed}
 use Rattle.search.specs.Branching.{isFixed, unfixed, adding, requiring, forbidding, children}
 use Rattle.search.specs.Search.{Problem, State, free, begun, branched, tested, settingOf, compared, improves, considered, takenOff, takeAt, openNext, stateAt, runs}
@@ -103,9 +101,9 @@ append-once (x ∷ xs) ys a b apart = (here, append-once xs ys (a .1) b (λ e m.
         go (inr k) = apart x (List·Memᴰ·head refl) k
 
 -- the named belts of a plan with the belts of accepted bytes rise
-named-rise : (p : Plan) (b : List ℕ) → p .belts ≡ planOf b .belts → Rises (named p)
-unfolding named planOf
-named-rise p b same = keep-rises _ (subst Rises (sym (ap namesOf same ∙ names-back b (beltRecords b))) (records-rise b))
+named-rise : (p : Plan) {b : List ℕ} → Accepted b → p .belts ≡ planOf b .belts → Rises (named p)
+unfolding named
+named-rise p ok same = keep-rises _ (subst Rises (sym (ap namesOf same)) (belts-rise ok))
 
 -- ---- what the waiting ones fix
 
@@ -175,7 +173,7 @@ apart-fixes p x ok = record {
 
 pub fixes-claim : FixesClaim
 fixes-claim q ex n st h x m =
-    let rises = named-rise (q .plan) (ex .bytes) (ex .belts-are) in
+    let rises = named-rise (q .plan) (ex .accepted) (ex .belts-are) in
     apart-fixes (q .plan) x
     (waiting-all q ex (Apart (q .plan)) (apart-free (q .plan)) (λ x ok e u. apart-children (q .plan) rises x ok e u (q .order)) n st h x m)
 

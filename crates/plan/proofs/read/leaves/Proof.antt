@@ -9,7 +9,7 @@ use borrow.Author.Tests.{eq-eqb, ne-eqb}
 use Rattle.plan.specs.Lists.{mem}
 use Rattle.plan.specs.Records.{chain}
 use Rattle.plan.specs.Reading.{IsBelt, firstBelt, nextBelt}
-use Rattle.plan.proofs.Reading.{first-belt-is, next-belt-is, chain-next, chain-none, leaves-on}
+use Rattle.plan.proofs.Reading.{first-belt-is, next-belt-is, belt-chain-next, belt-chain-end, leaves-on}
 use Rattle.plan.proofs.read.leaves.Statement.{statement}
 use Rattle.plan.proofs.read.leaves.Tie as tie
 
@@ -38,7 +38,7 @@ returns c =
     let e = start .args .belt .0 in
     let o = at .loop .other .0 in
     let here = ap (λ (t : Bool). t || mem e (chain p (nextBelt p o))) (eq-eqb e o (c .if2 .taken)) in
-    let step = ap (mem e) (chain-next (start .pre .0) o (at .loop .inv .0 (c .before .before .before .if1 .taken))) in
+    let step = ap (mem e) (belt-chain-next (start .pre .0) o (at .loop .inv .0 (c .before .before .before .if1 .taken))) in
     sym (sym (at .loop .inv .1 ∙ leaves-on (start .pre .0) e (start .args .j) (start .pre .1) (start .pre .2) (start .pre .3)) ∙ step ∙ here)
 
 next-belt-requires : tie.Need-next-belt-requires Inv-loop μ-loop
@@ -52,7 +52,7 @@ loop-less c =
     let at = turn .before .before in
     let start = at .before .before .before in
     let p = start .args .p .now in
-    let s = ap length (chain-next (start .pre .0) (at .loop .other .0) (at .loop .inv .0 (turn .if1 .taken))) in
+    let s = ap length (belt-chain-next (start .pre .0) (at .loop .other .0) (at .loop .inv .0 (turn .if1 .taken))) in
     let n = ap (λ (i : ℕ). length (chain p i)) (c .next-belt .ensures) in
     omega arith
 
@@ -67,7 +67,7 @@ loop-again c =
     let is = at .loop .inv .0 (turn .if1 .taken) in
     let n = c .next-belt .ensures in
     let here = ap (λ (t : Bool). t || mem e (chain p (nextBelt p o))) (ne-eqb e o (c .before .if2 .left)) in
-    let step = ap (mem e) (chain-next (start .pre .0) o is) in (
+    let step = ap (mem e) (belt-chain-next (start .pre .0) o is) in (
       λ d. subst (IsBelt p) (sym n) (next-belt-is (start .pre .0) o is (λ z. d (n ∙ z)) .1),
       ap (λ (i : ℕ). mem e (chain p i)) n ∙ sym (step ∙ here) ∙ at .loop .inv .1,
     )
@@ -78,7 +78,7 @@ returns-2 c =
     let start = at .before .before .before in
     let p = start .args .p .now in
     let e = start .args .belt .0 in
-    let done = ap (λ (i : ℕ). mem e (chain p i)) (c .if1 .left) ∙ ap (mem e) (chain-none (start .pre .0)) in
+    let done = ap (λ (i : ℕ). mem e (chain p i)) (c .if1 .left) ∙ ap (mem e) (belt-chain-end (start .pre .0)) in
     sym (sym (at .loop .inv .1 ∙ leaves-on (start .pre .0) e (start .args .j) (start .pre .1) (start .pre .2) (start .pre .3)) ∙ done)
 
 pub leaves-spec : {M : Type 1} → statement M

@@ -6,9 +6,10 @@ use native.Mathlib.Omega.{arith}
 use borrow.Author.Needs.{needs}
 use lib.ListN.{length, set, length-set}
 use Rattle.plan.specs.Reading.{IsRule, rulesFrom}
+use Rattle.plan.proofs.Reading.{records-more, rule-low}
 use Rattle.route.specs.Values.{clausesIn}
 use Rattle.route.proofs.Ahead.{rule-shorter}
-use Rattle.route.proofs.Entries.{RulesStored, rules-start, rules-stored, rules-size, rules-end, some-records, rule-low, next-rule-low, first-literal-low}
+use Rattle.route.proofs.Entries.{RulesStored, rules-start, rules-stored, rules-size, rules-end, next-rule-low, first-literal-low}
 use Rattle.route.proofs.clauses.decode.Statement.{statement}
 use Rattle.route.proofs.clauses.decode.Tie as tie
 
@@ -25,7 +26,7 @@ cast-clauses : tie.Need-cast-clauses Inv-loop μ-loop
 cast-clauses c = search needs
 
 slice-write-clauses : tie.Need-slice-write-clauses Inv-loop μ-loop
-slice-write-clauses c = let start = c .before .before .before .before in omega (arith, some-records (start .pre .0), start .pre .3)
+slice-write-clauses c = let start = c .before .before .before .before in omega (arith, records-more (start .pre .0), start .pre .3)
 
 loop-holds : tie.Need-loop-holds Inv-loop μ-loop
 loop-holds c =
@@ -76,7 +77,7 @@ add-clauses c = let low = parts-low (c .before .before) in omega (arith, low .0,
 
 -- the place of its entry is low, and in the array
 place-low : (c : tie.Then1 Inv-loop μ-loop) → c .before .before .loop .rule .0 < 2048
-place-low c = rule-low (c .before .before .before .before .before .before .before .pre .0) (c .before .before .loop .rule .0) (rule-is c)
+place-low c = rule-low (c .before .before .before .before .before .before .before .pre .0) (c .before .before .loop .rule .0) (rule-is c) .2
 
 cast-clauses-4 : tie.Need-cast-clauses-4 Inv-loop μ-loop
 cast-clauses-4 c = omega (arith, place-low (c .before .before .before .before .before))
@@ -88,7 +89,8 @@ slice-write-clauses-2 : tie.Need-slice-write-clauses-2 Inv-loop μ-loop
 slice-write-clauses-2 c =
     let turn = c .before .before .before .before .before in
     let at = turn .before .before in
-    omega (arith, rule-is turn .0, at .before .before .before .before .before .pre .3, same at)
+    let pre = at .before .before .before .before .before .pre in
+    omega (arith, rule-low (pre .0) (at .loop .rule .0) (rule-is turn) .1, pre .3, same at)
 
 put-literals-requires : tie.Need-put-literals-requires Inv-loop μ-loop
 put-literals-requires c κs =

@@ -5,13 +5,13 @@ use native.Mathlib.Omega.{arith}
 use mathlib.Core.List.{List}
 use lib.ListN.{length}
 use Rattle.plan.specs.Plan.{literalAt}
-use Rattle.plan.specs.Records.{chain}
-use Rattle.plan.specs.Reading.{IsLiteral, literalsFrom}
+use Rattle.plan.specs.Reading.{IsLiteral, literalChain, literalsFrom}
+use Rattle.plan.proofs.Reading.{literal-low}
 use Rattle.route.specs.Values.{codeIn, entryOf}
 use Rattle.route.specs.Inner.{Codable, stores}
 use Rattle.route.proofs.Codes.{codable-low, literal-codable}
 use Rattle.route.proofs.Ahead.{literal-shorter}
-use Rattle.route.proofs.Entries.{LiteralsStored, literals-start, literals-stored, literals-size, literals-end, literal-low, next-literal-low}
+use Rattle.route.proofs.Entries.{LiteralsStored, literals-start, literals-stored, literals-size, literals-end, next-literal-low}
 use Rattle.route.proofs.clauses.put_literals.Statement.{statement}
 use Rattle.route.proofs.clauses.put_literals.Tie as tie
 
@@ -80,7 +80,7 @@ add-clauses c = omega (arith, next-low (c .before), code-low (c .before .before)
 
 -- the place of its entry is low, and in the array
 place-low : (c : tie.Then1 Inv-loop μ-loop) → c .before .before .loop .literal .0 < 2048
-place-low c = literal-low (c .before .before .before .before .before .before .pre .0) (c .before .before .loop .literal .0) (literal-is c)
+place-low c = literal-low (c .before .before .before .before .before .before .pre .0) (c .before .before .loop .literal .0) (literal-is c) .2
 
 cast-clauses-2 : tie.Need-cast-clauses-2 Inv-loop μ-loop
 cast-clauses-2 c = omega (arith, place-low (c .before .before .before .before .before))
@@ -93,7 +93,8 @@ slice-write-clauses c =
     let turn = c .before .before .before .before .before in
     let at = turn .before .before in
     let start = at .before .before .before .before in
-    omega (arith, literal-is turn .0, start .pre .3, literals-size (start .pre .0) (at .loop .inv))
+    let low = literal-low (start .pre .0) (at .loop .literal .0) (literal-is turn) in
+    omega (arith, low .1, start .pre .3, literals-size (start .pre .0) (at .loop .inv))
 
 loop-less : tie.Need-loop-less Inv-loop μ-loop
 loop-less c =
@@ -121,7 +122,7 @@ returns c =
     let start = at .before .before .before .before in
     let p = start .args .p .now in
     literals-end (start .pre .0) (at .loop .inv) (c .if1 .left)
-    ∙ ap (λ (l : ℕ). stores (entryOf p) (start .args .clauses .now) (chain p l)) (at .before .first-literal .ensures)
+    ∙ ap (λ (l : ℕ). stores (entryOf p) (start .args .clauses .now) (literalChain p l)) (at .before .first-literal .ensures)
 
 pub put-literals-spec : {M : Type 1} → statement M
 put-literals-spec =

@@ -4,14 +4,16 @@ use mathlib.Core.Path.{_≡_, sym, ap, _∙_}
 use Prim.Native.Nat.{ℕ, _/_, _%_, _<_}
 use native.Mathlib.Omega.{arith}
 use lib.ListN.{length, getD}
+use Rattle.plan.specs.Records.{records}
 use Rattle.plan.specs.Plan.{literalAt}
 use Rattle.plan.specs.Reading.{IsRule, IsLiteral, nextRule, firstLiteral, nextLiteral, rulesFrom, literalsFrom}
+use Rattle.plan.proofs.Reading.{records-more, rule-low, literal-low}
 use Rattle.route.specs.Permission.{holds, met}
 use Rattle.route.specs.Values.{namedPlaces, hasBelt, codeIn}
 use Rattle.route.specs.Inner.{isTrue}
 use Rattle.route.proofs.Codes.{assigned, assigned-fits, codable-low, literal-codable, literal-true}
 use Rattle.route.proofs.Ahead as ahead
-use Rattle.route.proofs.Entries.{rule-low, literal-low, some-records, first-entry, rule-parts, literal-parts}
+use Rattle.route.proofs.Entries.{first-entry, rule-parts, literal-parts}
 use Rattle.route.proofs.rules.all_met.Statement.{statement}
 use Rattle.route.proofs.rules.all_met.Tie as tie
 
@@ -36,7 +38,7 @@ add-on c =
     omega (arith, assigned-fits (start .pre .0) (start .pre .2) (start .args .setting) (omega arith))
 
 shared-slice-read-next : tie.Need-shared-slice-read-next Inv-loop μ-loop Inv-rules μ-rules
-shared-slice-read-next c = let start = c .before .before .before in omega (arith, some-records (start .pre .0), start .pre .1 .room)
+shared-slice-read-next c = let start = c .before .before .before in omega (arith, records-more (start .pre .0), start .pre .1 .room)
 
 rules-holds : tie.Need-rules-holds Inv-loop μ-loop Inv-rules μ-rules
 rules-holds c =
@@ -48,19 +50,20 @@ rules-holds c =
 rule-is : (c : tie.In-rules Inv-loop μ-loop Inv-rules μ-rules) → IsRule (c .before .before .before .before .before .args .p .now) (c .before .rules .next)
 rule-is c = c .before .rules .inv .0 (c .rules-test .taken)
 
-rule-small : (c : tie.In-rules Inv-loop μ-loop Inv-rules μ-rules) → c .before .rules .next < 2048
-rule-small c = rule-low (c .before .before .before .before .before .pre .0) (c .before .rules .next) (rule-is c)
+rule-small : (c : tie.In-rules Inv-loop μ-loop Inv-rules μ-rules)
+    → (c .before .rules .next < records (c .before .before .before .before .before .args .p .now)) × (c .before .rules .next < 2048)
+rule-small c = let low = rule-low (c .before .before .before .before .before .pre .0) (c .before .rules .next) (rule-is c) in (low .1, low .2)
 
 cast-rule : tie.Need-cast-rule Inv-loop μ-loop Inv-rules μ-rules
-cast-rule c = omega (arith, rule-small c)
+cast-rule c = omega (arith, rule-small c .1)
 
 mul-rule : tie.Need-mul-rule Inv-loop μ-loop Inv-rules μ-rules
-mul-rule c = omega (arith, rule-small c)
+mul-rule c = omega (arith, rule-small c .1)
 
 shared-slice-read-rule : tie.Need-shared-slice-read-rule Inv-loop μ-loop Inv-rules μ-rules
 shared-slice-read-rule c =
     let turn = c .before in
-    omega (arith, rule-is turn .0, turn .before .before .before .before .before .pre .1 .room)
+    omega (arith, rule-small turn .0, turn .before .before .before .before .before .pre .1 .room)
 
 -- the two parts of its entry
 parts : (c : tie.In-rules Inv-loop μ-loop Inv-rules μ-rules) →
@@ -84,19 +87,23 @@ literal-is : (c : tie.In-loop Inv-loop μ-loop Inv-rules μ-rules)
     → IsLiteral (c .before .before .before .before .before .before .before .before .args .p .now) (c .before .loop .literal)
 literal-is c = c .before .loop .inv .0 (c .loop-test .taken)
 
-literal-small : (c : tie.In-loop Inv-loop μ-loop Inv-rules μ-rules) → c .before .loop .literal < 2048
-literal-small c = literal-low (c .before .before .before .before .before .before .before .before .pre .0) (c .before .loop .literal) (literal-is c)
+literal-small : (c : tie.In-loop Inv-loop μ-loop Inv-rules μ-rules) →
+    let p = c .before .before .before .before .before .before .before .before .args .p .now in
+    (c .before .loop .literal < records p) × (c .before .loop .literal < 2048)
+literal-small c =
+    let low = literal-low (c .before .before .before .before .before .before .before .before .pre .0) (c .before .loop .literal) (literal-is c) in
+    (low .1, low .2)
 
 cast-entry : tie.Need-cast-entry Inv-loop μ-loop Inv-rules μ-rules
-cast-entry c = omega (arith, literal-small c)
+cast-entry c = omega (arith, literal-small c .1)
 
 mul-entry : tie.Need-mul-entry Inv-loop μ-loop Inv-rules μ-rules
-mul-entry c = omega (arith, literal-small c)
+mul-entry c = omega (arith, literal-small c .1)
 
 shared-slice-read-entry : tie.Need-shared-slice-read-entry Inv-loop μ-loop Inv-rules μ-rules
 shared-slice-read-entry c =
     let round = c .before in
-    omega (arith, literal-is round .0, round .before .before .before .before .before .before .before .before .pre .1 .room)
+    omega (arith, literal-small round .0, round .before .before .before .before .before .before .before .before .pre .1 .room)
 
 -- the two parts of its entry
 halves : (c : tie.In-loop Inv-loop μ-loop Inv-rules μ-rules) →
