@@ -1,1 +1,3 @@
+-- In the order in which to read them.
 pub mod Interface
+pub mod Claims
