@@ -1,0 +1,59 @@
+-- `lowest_of`: the mask of a known route is of named belts.
+use borrow.Author.Needs.{needs}
+use mathlib.Core.Path.{refl, sym, _∙_, ap, subst}
+use mathlib.Core.List.{List}
+use Prim.Native.Nat.{ℕ}
+use Rattle.plan.proofs.Arcs.{records-few}
+use Rattle.route.specs.Values.{idsOf, OfNamed, gatheredIn}
+use Rattle.route.proofs.Holding.{known-low, route-placeable, mask-named}
+use Rattle.route.proofs.Entries.{clauses-lent}
+use Rattle.test_sheets.proofs.answers.lowest_of.Statement.{statement}
+use Rattle.test_sheets.proofs.answers.lowest_of.Tie as tie
+
+named-places-requires : tie.Need-named-places-requires
+named-places-requires c κs = search needs
+
+slice-aggregate-decode : tie.Need-slice-aggregate-decode
+slice-aggregate-decode c = search needs
+
+decode-requires : tie.Need-decode-requires
+decode-requires c κs =
+    let made = c .before .before in
+    let start = made .before .before in
+    (start .pre .0, made .named-places .ensures, refl, records-few (start .pre .0) .0)
+
+-- where the places were made, and where all was asked for
+abbrev made : tie.After-decode → tie.After-named-places
+made c = c .before .before .before
+
+abbrev begun : tie.After-decode → tie.Start
+begun c = made c .before .before
+
+slice-aggregate-lowest-setting : tie.Need-slice-aggregate-lowest-setting
+slice-aggregate-lowest-setting c = search needs
+
+on-route-requires : tie.Need-on-route-requires
+on-route-requires c κs =
+    let decoded = c .before .before .before in
+    let start = begun decoded in
+    route-placeable (start .pre .0) (start .args .r) (start .pre .1) (made decoded .named-places .ensures)
+
+lowest-setting-requires : tie.Need-lowest-setting-requires
+lowest-setting-requires c κs =
+    let decoded = c .before .before .before .before in
+    let start = begun decoded in
+    let es = idsOf (start .args .r) in
+    let mask = c .on-route .ensures ∙ ap (λ (ps : List ℕ). gatheredIn ps 0 es) (made decoded .named-places .ensures) in
+    let low = known-low (start .pre .0) (start .args .r) (start .pre .1) in (
+      start .pre .0,
+      clauses-lent 2048 (records-few (start .pre .0) .0) (decoded .decode .ensures),
+      subst (OfNamed (start .args .p .now)) (sym mask) (mask-named (start .pre .0) es low),
+    )
+
+returns : tie.Need-returns
+returns c = search needs
+
+pub lowest-of-spec : {M : Type 1} → statement M
+lowest-of-spec =
+    tie.close
+    (tie.spec named-places-requires slice-aggregate-decode decode-requires slice-aggregate-lowest-setting on-route-requires lowest-setting-requires returns)
