@@ -14,8 +14,8 @@
  * threads do not disturb each other as long as none of them writes what another
  * one is lent.
  *
- * Null. A pointer with a length says where that many bytes are; with length 0 it
- * is not looked at, and may be null. No other pointer may be null.
+ * Null. Each pointer comes with a length, and says where that many bytes are. With
+ * length 0 it is not looked at, and may be null; with any other it may not.
  *
  * Overlap. What is written may overlap nothing else that is lent: `out` lies apart
  * from the plan. Plan and sheet may overlap, since both are only read. Nobody else
@@ -96,8 +96,8 @@ enum planner_number {
  *
  *   pick      which belt a subproblem is branched on: 0 the lowest, 1 the one in
  *             most rules, 2 the lowest on the relaxed route
- *   order     which half is opened next: 0 the one that forbids the belt, 1 the
- *             one that requires it
+ *   order     which of the two subproblems that this makes is opened next: 0 the
+ *             one that forbids the belt, 1 the one that requires it
  *   budget    how many subproblems may be opened, 1 or more. With k named belts
  *             2^(k+1) - 1 is always enough
  *
@@ -113,8 +113,8 @@ struct planner_query {
  *
  *   number    of enum planner_number
  *   opened    how many subproblems were opened
- *   length    the length of the sheet in bytes, 0 without one
- *   tests     for later versions: 0
+ *   length    of the sheet in bytes; 0 without one
+ *   tests     for later versions, and 0 until then
  */
 struct planner_reply {
     uint64_t number, opened, length, tests;

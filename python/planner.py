@@ -62,9 +62,13 @@ class Refused(Exception):
     """A plan, a query or a sheet is refused: `number` is that of the first broken line, `cause` its words."""
 
     def __init__(self, number):
+        # The number alone is the argument: so the exception can be copied, and handed from one process to another.
+        super().__init__(number)
         self.number = number
         self.cause = CAUSES.get(number, "unknown number")
-        super().__init__(f"refused {number}: {self.cause}")
+
+    def __str__(self):
+        return f"refused {self.number}: {self.cause}"
 
 
 class LibraryError(Exception):
@@ -73,11 +77,11 @@ class LibraryError(Exception):
 
 class Result(NamedTuple):
     """What a search found. `ending` is 'route', 'none' (no route is permitted) or 'spent' (the budget is spent, which says nothing of
-    routes); `opened` is how many subproblems were opened. Without a route the rest is None."""
+    routes); `opened` is how many subproblems were opened. On a route `route` has the numbers of its belts in order, `cost` their sum,
+    `setting` the modes that are on (mode m counts 2^(m-1)), and `sheet` the bytes of the sheet that says all this; else these are None."""
 
     ending: str
     opened: int
-    # The belts of the route, in order; their cost; the setting, in which mode m counts 2^(m-1); and the sheet that says all this.
     route: Optional[Tuple[int, ...]] = None
     cost: Optional[int] = None
     setting: Optional[int] = None
@@ -156,13 +160,16 @@ def _unless_refused(number):
 
 
 def check_plan(plan):
-    """Checks a plan: nothing if it is one, else Refused with a number from 1 to 7."""
+    """Checks a plan: returns nothing if it is one, else raises Refused with a number from 1 to 7."""
     plan = _copied("plan", plan)
     _unless_refused(_loaded().planner_check_plan(plan, len(plan)))
 
 
 def search(plan, s, t, pick=0, order=0, budget=1_000_000):
-    """Finds the cheapest permitted route from junction s to junction t: a Result, or Refused with a number from 1 to 9."""
+    """Finds the cheapest permitted route from junction s to junction t: returns a Result, or raises Refused with a number from 1 to 9.
+
+    At most `budget` subproblems are opened, 1 or more. `pick`, from 0 to 2, and `order`, 0 or 1, say in which way the search goes
+    (docs/USING.md): they change how many it opens, and so whether the budget is enough, but not which route is found."""
     plan = _copied("plan", plan)
     query = _query(s=s, t=t, pick=pick, order=order, budget=budget)
     out = ctypes.create_string_buffer(SHEET_MAX)
@@ -184,7 +191,7 @@ def _read(sheet):
 
 
 def check_sheet(plan, s, t, sheet):
-    """Checks a sheet against a plan: nothing if it is a permitted route from s to t, else Refused with a number from 1 to 8 or from 11
-    to 14."""
+    """Checks a sheet against a plan: returns nothing if it has a permitted route from s to t, its cost and a setting that works, else
+    raises Refused with a number from 1 to 8 or from 11 to 14. The route need not be the cheapest."""
     plan, sheet = _copied("plan", plan), _copied("sheet", sheet)
     _unless_refused(_loaded().planner_check_sheet(plan, len(plan), _query(s=s, t=t), sheet, len(sheet)))
