@@ -19,6 +19,7 @@ use command::refusals;
 use command::sheets;
 use command::sheets::Place;
 use command::version;
+use plan::bounds::MAX_SHEET_BYTES;
 use route::path::Trip;
 use search::entry;
 use search::entry::Answer;
@@ -59,7 +60,7 @@ fn asked() -> Wanted {
 // Answers a query: writes the sheet of a route to the file of this name, where `place` was seen, then prints the line. Where the sheet can't be
 // written nothing is printed.
 fn answer(p: &[u8], query: Query, sheet: &[u8], place: Place) {
-    let mut out = [0u8; 3072];
+    let mut out = [0u8; MAX_SHEET_BYTES];
     let answer = entry::search(p, query, &mut out);
     let reply = entry::numbers(answer);
     let size = reply.size;

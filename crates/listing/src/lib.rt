@@ -9,6 +9,8 @@ use output::Gathered;
 use output::Room;
 use output::put;
 use output::put_number;
+use plan::bounds::MAX_SHEET_BYTES;
+use plan::bounds::MAX_STEPS;
 use plan::check::Verdict;
 use plan::read;
 use plan::read::BeltId;
@@ -21,13 +23,14 @@ use search::entry::Answer;
 use search::query::Query;
 ghost use mathlib.Core.Path.{_≡_};
 ghost use Prim.Native.Nat.{_≤_};
+ghost use Rattle.plan.specs.Bounds.{maxSteps};
 ghost use Rattle.plan.specs.Reading.{Accepted};
 ghost use Rattle.plan.specs.Refusals.{refusal, numberOf};
 ghost use Rattle.listing.specs.Lines.{blank, readSheet, sheetAt, lineOf};
 
 // Gathers the belts of a route, each behind a space.
 fn put_belts(room: &mut Room, gathered: Gathered, route: Route) -> Gathered
-    requires { ⌜ route .count ≤ 255 ⌝ }
+    requires { ⌜ route .count ≤ maxSteps ⌝ }
 {
     let belts = route.belts;
     let mut now = gathered;
@@ -42,7 +45,7 @@ fn put_belts(room: &mut Room, gathered: Gathered, route: Route) -> Gathered
 
 // Prints the belts of a route, each behind a space.
 pub fn print_belts(route: Route)
-    requires { ⌜ route .count ≤ 255 ⌝ }
+    requires { ⌜ route .count ≤ maxSteps ⌝ }
 {
     let mut room = io::large_buffer();
     let gathered = put_belts(&mut room, output::nothing(), route);
@@ -63,7 +66,7 @@ fn blank() -> Sheet
     Sheet {
         route: Route {
             count: 0,
-            belts: [BeltId(0); 255],
+            belts: [BeltId(0); MAX_STEPS],
         },
         cost: 0,
         setting: 0,
@@ -72,7 +75,7 @@ fn blank() -> Sheet
 
 // What the bytes say, if they are in the form of a sheet.
 fn read_sheet(h: &[u8]) -> Sheet
-    ensures { λ v. ⌜ (v ≡ readSheet (now (h .entry))) × (v .route .count ≤ 255) ⌝ }
+    ensures { λ v. ⌜ (v ≡ readSheet (now (h .entry))) × (v .route .count ≤ maxSteps) ⌝ }
 {
     if sheet::in_form(h) {
         return sheet::read(h);
@@ -82,7 +85,7 @@ fn read_sheet(h: &[u8]) -> Sheet
 
 // What the first `length` bytes say, if there are so many.
 fn sheet_at(out: &[u8], length: usize) -> Sheet
-    ensures { λ v. ⌜ (v ≡ sheetAt (now (out .entry)) length) × (v .route .count ≤ 255) ⌝ }
+    ensures { λ v. ⌜ (v ≡ sheetAt (now (out .entry)) length) × (v .route .count ≤ maxSteps) ⌝ }
 {
     if out.len() < length {
         return blank();
@@ -92,7 +95,7 @@ fn sheet_at(out: &[u8], length: usize) -> Sheet
 
 // The values of an answer. A route's sheet stands at the start of `out`.
 pub fn line_of(answer: Answer, out: &[u8]) -> Line
-    ensures { λ v. ⌜ (v ≡ lineOf answer (now (out .entry))) × (v .sheet .route .count ≤ 255) ⌝ }
+    ensures { λ v. ⌜ (v ≡ lineOf answer (now (out .entry))) × (v .sheet .route .count ≤ maxSteps) ⌝ }
 {
     let reply = entry::numbers(answer);
     let sheet = sheet_at(out, reply.size);
@@ -105,7 +108,7 @@ pub fn line_of(answer: Answer, out: &[u8]) -> Line
 
 // Gathers what a route's sheet says.
 fn put_route(room: &mut Room, gathered: Gathered, sheet: Sheet, opened: u64) -> Gathered
-    requires { ⌜ sheet .route .count ≤ 255 ⌝ }
+    requires { ⌜ sheet .route .count ≤ maxSteps ⌝ }
 {
     let cost = put_number(room, gathered, b" ", sheet.cost);
     let setting = put_number(room, cost, b" ", sheet.setting as u64);
@@ -115,7 +118,7 @@ fn put_route(room: &mut Room, gathered: Gathered, sheet: Sheet, opened: u64) -> 
 
 // Gathers a line behind s and t.
 fn put_line(room: &mut Room, gathered: Gathered, line: Line) -> Gathered
-    requires { ⌜ line .sheet .route .count ≤ 255 ⌝ }
+    requires { ⌜ line .sheet .route .count ≤ maxSteps ⌝ }
 {
     if line.number == 0 {
         return put_route(room, gathered, line.sheet, line.opened);
@@ -131,7 +134,7 @@ fn put_line(room: &mut Room, gathered: Gathered, line: Line) -> Gathered
 
 // Prints a line behind s and t.
 pub fn print_line(line: Line)
-    requires { ⌜ line .sheet .route .count ≤ 255 ⌝ }
+    requires { ⌜ line .sheet .route .count ≤ maxSteps ⌝ }
 {
     let mut room = io::large_buffer();
     let gathered = put_line(&mut room, output::nothing(), line);
@@ -177,7 +180,7 @@ fn put_pair(room: &mut Room, gathered: Gathered, p: &[u8], s: u64, t: u64) -> Ga
         order: 0,
         budget: 1000000,
     };
-    let mut out = [0u8; 3072];
+    let mut out = [0u8; MAX_SHEET_BYTES];
     let answer = entry::search(p, query, &mut out);
     put_query(room, gathered, query.trip, answer, &out)
 }

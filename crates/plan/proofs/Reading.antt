@@ -46,7 +46,7 @@ use native.Mathlib.Omega.{arith}
 use lib.ListN.{length, length-map}
 use lib.Dec.{eqb, ltb}
 use borrow.Author.Tests.{eqb-true, eqb-false, eq-eqb, lt-ltb, ltb-true}
-use Rattle.plan.specs.Bounds.{maxJunctions, maxModes, maxNamed, maxRecords}
+use Rattle.plan.specs.Bounds.{maxJunctions, maxModes, maxNamed, maxRecords, fieldLimit}
 use Rattle.plan.specs.declared.read.BeltId.{BeltId}
 use Rattle.plan.specs.declared.read.ModeId.{ModeId}
 use Rattle.plan.specs.declared.read.Literal.{Literal}
@@ -79,7 +79,7 @@ by-mode false v n m w q = let k : m ≡ record { 0 = n } = cc in (refl, ap (λ (
 
 -- ---- any bytes
 
-pub field-low : (b : List ℕ) → Bytes b → (i f : ℕ) → field b i f < 65536
+pub field-low : (b : List ℕ) → Bytes b → (i f : ℕ) → field b i f < fieldLimit
 field-low b bytes i f = omega (arith, bytes (12 * i + 2 * f), bytes (12 * i + 2 * f + 1))
 
 pub in-limits : (b : List ℕ) → Limits b → Accepted b
@@ -265,11 +265,11 @@ module _ {b : List ℕ} (ok : Accepted b) where
   pub belt-low : (e : ℕ) → IsBelt b e → (planOf b .junctions < e) × (e < records b) × (e < maxRecords)
   belt-low = item-low belts
 
-  pub belt-cost : Bytes b → (e : ℕ) → beltAt b e .cost < 65536
+  pub belt-cost : Bytes b → (e : ℕ) → beltAt b e .cost < fieldLimit
   belt-cost bytes e = field-low b bytes e 3
 
-  pub belts-cost : Bytes b → (x : Belt) → List·Memᴰ x (planOf b .belts) → x .cost < 65536
-  belts-cost bytes x m = subst (λ (y : Belt). y .cost < 65536) (sym (belt-of x m .1)) (belt-cost bytes (x .name))
+  pub belts-cost : Bytes b → (x : Belt) → List·Memᴰ x (planOf b .belts) → x .cost < fieldLimit
+  belts-cost bytes x m = subst (λ (y : Belt). y .cost < fieldLimit) (sym (belt-of x m .1)) (belt-cost bytes (x .name))
 
   -- ---- rules
 

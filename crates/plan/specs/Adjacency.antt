@@ -12,20 +12,20 @@ use Prim.Native.Nat.{ℕ, zero, suc, _+_, _*_, _-_, _/_, _%_}
 use mathlib.Core.List.{List, [], _++_, map}
 use lib.ListN.{length, replicate}
 use Rattle.plan.specs.Lists.{upto}
-use Rattle.plan.specs.Bounds.{maxJunctions}
+use Rattle.plan.specs.Bounds.{maxJunctions, fieldLimit}
 use Rattle.plan.specs.Plan.{Belt, Plan, leaving}
 
 abbrev pub arcOf : Belt → ℕ
-arcOf e = e .cost * 4294967296 + (e .leads * 65536 + e .name)
+arcOf e = e .cost * (fieldLimit * fieldLimit) + (e .leads * fieldLimit + e .name)
 
 abbrev pub arcCost : ℕ → ℕ
-arcCost a = a / 4294967296
+arcCost a = a / (fieldLimit * fieldLimit)
 
 abbrev pub arcHead : ℕ → ℕ
-arcHead a = a / 65536 % 65536
+arcHead a = a / fieldLimit % fieldLimit
 
 abbrev pub arcName : ℕ → ℕ
-arcName a = a % 65536
+arcName a = a % fieldLimit
 
 abbrev pub inOrder : Plan → ℕ → List Belt
 inOrder p zero = []

@@ -1,5 +1,6 @@
 -- The limits of the format (paper 01), each written once. The code has the same numbers under the same names (src/bounds.rt).
 --
+--   fieldLimit        what a field holds is below it: two bytes
 --   recordBytes       the bytes of a record
 --   maxRecords        the most records of a plan
 --   minPlanBytes, maxPlanBytes
@@ -13,6 +14,9 @@
 --
 -- Assumes nothing.
 use Prim.Native.Nat.{ℕ, _+_, _*_, _-_}
+
+abbrev pub fieldLimit : ℕ
+fieldLimit = 65536
 
 abbrev pub recordBytes : ℕ
 recordBytes = 12

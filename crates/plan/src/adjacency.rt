@@ -1,4 +1,5 @@
 // The belts of an accepted plan side by side, by the junction that they leave, decoded once for a search that reads them over and over.
+use crate::bounds::FIELD_LIMIT;
 use crate::bounds::JUNCTION_PLACES;
 use crate::read;
 use crate::read::BeltId;
@@ -11,25 +12,30 @@ ghost use Rattle.plan.specs.Plan.{planOf, leaving};
 ghost use Rattle.plan.specs.Reading.{Accepted};
 ghost use Rattle.plan.specs.Adjacency.{arcOf, arcCost, arcHead, arcName, arcsIn, endsOf};
 
+// An arc is one number: COST_UNIT times the cost, HEAD_UNIT times the junction that the belt leads to, and the belt.
+const HEAD_UNIT: u64 = FIELD_LIMIT as u64;
+
+const COST_UNIT: u64 = HEAD_UNIT * HEAD_UNIT;
+
 // The cost of an arc.
 pub fn cost(arc: u64) -> u64
     ensures { λ v. ⌜ v ≡ arcCost arc ⌝ }
 {
-    arc / 4294967296
+    arc / COST_UNIT
 }
 
 // The junction that an arc leads to.
 pub fn head(arc: u64) -> usize
     ensures { λ v. ⌜ v ≡ arcHead arc ⌝ }
 {
-    (arc / 65536 % 65536) as usize
+    (arc / HEAD_UNIT % HEAD_UNIT) as usize
 }
 
 // The belt that an arc is.
 pub fn name(arc: u64) -> BeltId
     ensures { λ v. ⌜ v .0 ≡ arcName arc ⌝ }
 {
-    BeltId((arc % 65536) as u16)
+    BeltId((arc % HEAD_UNIT) as u16)
 }
 
 // Puts the belts that leave junction u behind the first `from` arcs, and answers how many there are then.
@@ -45,7 +51,7 @@ fn put_leaving(p: &[u8], u: usize, from: usize, arcs: &mut [u64]) -> usize
     let mut belt = read::first_belt(p, u);
     while belt.0 != 0 {
         let to = read::leads_to(p, belt) as u64;
-        arcs[count] = read::cost(p, belt) * 4294967296 + (to * 65536 + belt.0 as u64);
+        arcs[count] = read::cost(p, belt) * COST_UNIT + (to * HEAD_UNIT + belt.0 as u64);
         count += 1;
         belt = read::next_belt(p, belt);
     }

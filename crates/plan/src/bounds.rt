@@ -1,5 +1,8 @@
 // The limits of the format (paper 01), each written once. The definitions have the same numbers under the same names (specs/Bounds.antt).
 
+// What a field holds is below this: two bytes.
+pub const FIELD_LIMIT: usize = 65536;
+
 // The bytes of a record.
 pub const RECORD_BYTES: usize = 12;
 

@@ -3,7 +3,7 @@ use crate::bounds::RECORD_BYTES;
 ghost use mathlib.Core.Path.{_≡_};
 ghost use Prim.Native.Nat.{_+_, _*_, _<_, _≤_};
 ghost use lib.ListN.{length};
-ghost use Rattle.plan.specs.Bounds.{recordBytes};
+ghost use Rattle.plan.specs.Bounds.{recordBytes, fieldLimit};
 ghost use Rattle.plan.specs.Records.{field, records, fieldBytes, recordOf, placed};
 
 // The kinds of records, field 0.
@@ -38,7 +38,7 @@ pub fn field(p: &[u8], r: usize, f: usize) -> u16
 
 fn wide16(x: u16) -> usize
     ensures { λ v. ⌜ (v ≡ x)
-        × (v < 65536) ⌝ }
+        × (v < fieldLimit) ⌝ }
 {
     x as usize
 }
@@ -48,7 +48,7 @@ pub fn index(p: &[u8], r: usize, f: usize) -> usize
     requires { ⌜ (f < 6)
         × (recordBytes * r + recordBytes ≤ length (now p)) ⌝ }
     ensures { λ v. ⌜ (v ≡ field (now (p .entry)) r f)
-        × (v < 65536) ⌝ }
+        × (v < fieldLimit) ⌝ }
 {
     wide16(field(p, r, f))
 }
@@ -57,7 +57,7 @@ pub fn index(p: &[u8], r: usize, f: usize) -> usize
 pub fn records(p: &[u8]) -> usize
     requires { ⌜ recordBytes ≤ length (now p) ⌝ }
     ensures { λ v. ⌜ (v ≡ records (now (p .entry)))
-        × (v < 65536) ⌝ }
+        × (v < fieldLimit) ⌝ }
 {
     index(p, 0, 4)
 }

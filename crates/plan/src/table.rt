@@ -1,5 +1,6 @@
 // What each kind of record holds in its unused and ranged fields: the rows of the table `rows` of specs/Records.antt, an arm for each kind: a
 // loop over a row that is looked up would take most of a check's time. The rows' chain indices are followed in chain.rt.
+use crate::bounds::FIELD_LIMIT;
 use crate::bounds::MAX_JUNCTIONS;
 use crate::bounds::MAX_MODES;
 use crate::record;
@@ -23,7 +24,7 @@ fn zeros(p: &[u8], r: usize, f: usize) -> bool
         × (recordBytes * r + recordBytes ≤ length (now p)) ⌝ }
     ensures { λ v. ⌜ v ≡ (eqb (field (now (p .entry)) r f) 0 && eqb (field (now (p .entry)) r (f + 1)) 0) ⌝ }
 {
-    record::index(p, r, f) * 65536 + record::index(p, r, f + 1) == 0
+    record::index(p, r, f) * FIELD_LIMIT + record::index(p, r, f + 1) == 0
 }
 
 // Whether field f of record r is from a to z.

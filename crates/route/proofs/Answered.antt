@@ -10,6 +10,7 @@ use mathlib.Core.List.{List, List·Memᴰ}
 use native.Mathlib.Omega.{arith}
 use lib.ListN.{length, take, drop, length-map}
 use lib.Seq.{sets-eq, take-at}
+use Rattle.plan.specs.Bounds.{maxSteps}
 use Rattle.plan.specs.Plan.{Belt, planOf, namesOf}
 use Rattle.plan.specs.Reading.{Accepted, IsBelt}
 use Rattle.plan.proofs.Lists.{map-in}
@@ -23,7 +24,7 @@ use Rattle.route.proofs.Firsts.{relaxed-some}
 
 -- a route between junctions of the plan, as the code holds it
 module _ {b : List ℕ} (ok : Accepted b) (s t : ℕ) (r : List Belt) (h : IsRoute (planOf b) s t r) (low : 1 ≤ s) (high : t ≤ planOf b .junctions) where
-  few : length (namesOf r) ≤ 255
+  few : length (namesOf r) ≤ maxSteps
   few = omega (arith, route-few ok s t r low high h, length-map r (λ (e : Belt). e .name))
 
   known : Known b (packed (namesOf r))
@@ -38,7 +39,7 @@ module _ {b : List ℕ} (ok : Accepted b) (s t : ℕ) (r : List Belt) (h : IsRou
   same = ap (beltsByName (planOf b)) (ids-packed (namesOf r) few) ∙ names-belts ok r (route-belts (planOf b) s t r h)
 
 -- belts that were put into room are read back
-stands : (r : List Belt) → length r ≤ 255 → (room : List ℕ) → length room ≡ 255 → firstBelts (length r) (keptOf (some r) room) ≡ routeOf r
+stands : (r : List Belt) → length r ≤ maxSteps → (room : List ℕ) → length room ≡ maxSteps → firstBelts (length r) (keptOf (some r) room) ≡ routeOf r
 stands r h room size =
     let many : length (namesOf r) ≡ length r = length-map r (λ (e : Belt). e .name) in
     ap packed

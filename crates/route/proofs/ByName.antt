@@ -34,6 +34,7 @@ use lib.Seq.{take-at, sets}
 use lib.Dec.{eqb}
 use borrow.Author.Tests.{eqb-true, eq-eqb, ne-eqb, not-false}
 use Rattle.plan.specs.declared.read.BeltId.{BeltId}
+use Rattle.plan.specs.Bounds.{maxSteps}
 use Rattle.plan.specs.Lists.{all, kept, keep, mem, within}
 use Rattle.plan.specs.Plan.{Belt, Plan, planOf, beltAt, namesOf, beltId}
 use Rattle.plan.specs.Reading.{Accepted, Bytes, IsBelt}
@@ -105,7 +106,7 @@ module _ {b : List ℕ} (ok : Accepted b) where
   sum-cost bytes [] h = omega arith
   sum-cost bytes (e ∷ r) h = omega (arith, belts-cost ok bytes e (h e (List·Memᴰ·head refl)), sum-cost bytes r (λ f m. h f (List·Memᴰ·tail m)))
 
-  pub route-few : (s t : ℕ) (r : List Belt) → 1 ≤ s → t ≤ planOf b .junctions → IsRoute (planOf b) s t r → length r ≤ 255
+  pub route-few : (s t : ℕ) (r : List Belt) → 1 ≤ s → t ≤ planOf b .junctions → IsRoute (planOf b) s t r → length r ≤ maxSteps
   route-few s t r low inside h = omega (arith, route-length s t r h, plan-sizes ok .1)
 
   pub route-cheap : Bytes b → (s t : ℕ) (r : List Belt) → t ≤ planOf b .junctions → IsRoute (planOf b) s t r → cost r < costLimit
@@ -135,14 +136,14 @@ ends-junctions p s t h =
 
 -- ---- routes as the code holds them
 
-pub ids-packed : (es : List ℕ) → length es ≤ 255 → idsOf (packed es) ≡ es
+pub ids-packed : (es : List ℕ) → length es ≤ maxSteps → idsOf (packed es) ≡ es
 ids-packed es h =
-    ap (map (λ (e : BeltId). e .0)) (take-at (map beltId es) (replicate (255 - length es) (beltId 0)) (length es) (length-map es beltId))
+    ap (map (λ (e : BeltId). e .0)) (take-at (map beltId es) (replicate (maxSteps - length es) (beltId 0)) (length es) (length-map es beltId))
     ∙ map-map (λ (e : BeltId). e .0) beltId es
     ∙ map-id es
 
-pub packed-sets : (es : List ℕ) → length es ≤ 255 → sets (replicate 255 (beltId 0)) 0 (map beltId es) ≡ packed es .belts
-packed-sets = ids-sets 255
+pub packed-sets : (es : List ℕ) → length es ≤ maxSteps → sets (replicate maxSteps (beltId 0)) 0 (map beltId es) ≡ packed es .belts
+packed-sets = ids-sets maxSteps
 
 pub known-route : {b : List ℕ} → Accepted b → (r : Route) → Known b r → routeIn b r ≡ map (beltAt b) (idsOf r)
 known-route ok r k = named-map ok (idsOf r) (k .belts)

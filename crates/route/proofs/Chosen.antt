@@ -12,6 +12,7 @@ use Prim.Native.Nat.{ℕ, _^_, _<_}
 use mathlib.Core.List.{List, List·Memᴰ}
 use lib.ListN.{length, getD}
 use Rattle.plan.specs.declared.named.Place.the-variants.{At}
+use Rattle.plan.specs.Bounds.{maxRecords}
 use Rattle.plan.specs.Lists.{mem}
 use Rattle.plan.specs.Plan.{Belt, planOf, named, placeOf}
 use Rattle.plan.specs.Reading.{Accepted}
@@ -37,7 +38,7 @@ module _ {b : List ℕ} (ok : Accepted b) (es : List ℕ) (all : (e : ℕ) → L
   abbrev ns : List ℕ
   ns = named (planOf b)
 
-  low : (e : ℕ) → List·Memᴰ e es → e < 2048
+  low : (e : ℕ) → List·Memᴰ e es → e < maxRecords
   low e m = belt-low ok e (named-in b e (all e m)) .2
 
   mask-low : maskOf b es < 2 ^ length ns

@@ -21,6 +21,7 @@ use Rattle.plan.specs.declared.read.BeltId.{BeltId}
 use Rattle.plan.specs.declared.read.Literal.{Literal}
 use Rattle.plan.specs.declared.read.Literal.the-variants.{OfBelt, OfMode}
 use Rattle.plan.specs.declared.named.Place.the-variants.{At}
+use Rattle.plan.specs.Bounds.{fieldLimit, maxNamed}
 use Rattle.plan.specs.Lists.{count}
 use Rattle.plan.specs.Plan.{planOf, literalAt, beltAt, named, names, inRule, codePlace}
 use Rattle.plan.specs.Reading.{Accepted, IsLiteral}
@@ -29,7 +30,7 @@ use Rattle.plan.proofs.Naming.{in-named, named-rises}
 use Rattle.plan.proofs.Places.{at-place, place-in, place-is}
 use Rattle.plan.proofs.Reading.{literal-belt, literal-mode, belt-in, belt-low, named-few, plan-sizes, literal-in}
 use Rattle.route.specs.Permission.{holds}
-use Rattle.route.specs.Values.{inMask, OfNamed, namedPlaces, hasBelt, codeBy, codeIn}
+use Rattle.route.specs.Values.{inMask, OfNamed, namedPlaces, hasBelt, codeBy, codeIn, lastPlace}
 use Rattle.route.specs.Inner.{Codable, isTrue}
 use Rattle.route.proofs.Bits.{low-bits, high-bits}
 
@@ -64,7 +65,7 @@ code-true on v w = ap (λ (k : ℕ). eqb (on / 2 ^ k % 2) (codeBy v w % 2)) (cod
 
 pub codable-low : (places : List ℕ) (x : Literal) → Codable places x → codeIn places x < 128
 codable-low places (OfBelt e w) h = code-low (getD places (e .0) 0 - 1) w (omega (arith, h .2))
-codable-low places (OfMode m w) h = code-low (47 + m .0) w (omega arith)
+codable-low places (OfMode m w) h = code-low (lastPlace + m .0) w (omega arith)
 
 -- ---- the literals of a plan
 
@@ -73,7 +74,7 @@ number-of zero k h = let z : _≡_ {A = ℕ} 0 1 = cc in absurd (omega arith)
 number-of (suc n) k h = let e : n ≡ k = cc in ap suc e
 
 abbrev pub assigned : ℕ → ℕ → ℕ
-assigned belts σ = belts + σ * 2 ^ 48
+assigned belts σ = belts + σ * 2 ^ maxNamed
 
 module _ {b : List ℕ} (ok : Accepted b) where
   abbrev ns : List ℕ
@@ -107,10 +108,10 @@ module _ {b : List ℕ} (ok : Accepted b) where
   -- ---- what they say
 
   module _ {belts : ℕ} (of : OfNamed b belts) where
-    belts-low : belts < 2 ^ 48
-    belts-low = let few : 2 ^ length ns ≤ 2 ^ 48 = pow-mono (named-few ok) in omega arith
+    belts-low : belts < 2 ^ maxNamed
+    belts-low = let few : 2 ^ length ns ≤ 2 ^ maxNamed = pow-mono (named-few ok) in omega arith
 
-    pub assigned-fits : (σ : ℕ) → σ < 65536 → assigned belts σ < 2 ^ 64
+    pub assigned-fits : (σ : ℕ) → σ < fieldLimit → assigned belts σ < 2 ^ 64
     assigned-fits σ h = omega (arith, belts-low)
 
     true-in : (σ : ℕ) {rule : List Literal} → List·Memᴰ rule (planOf b .rules) → (x : Literal) → List·Memᴰ x rule
@@ -122,13 +123,13 @@ module _ {b : List ℕ} (ok : Accepted b) where
         code-true (assigned belts σ) (getD (namedPlaces b) (e .0) 0 - 1) w
         ∙ ap (λ (t : Bool). Bool·beq t w)
         (ap (λ (n : ℕ). inMask (assigned belts σ) (At n)) v
-        ∙ low-bits belts σ 48 j (omega (arith, at-place (e .0) (named-rises b) i .1, named-few ok))
+        ∙ low-bits belts σ maxNamed j (omega (arith, at-place (e .0) (named-rises b) i .1, named-few ok))
         ∙ sym (ap (inMask belts) (place-in (e .0) ns i)))
     true-in σ {rule} m (OfMode n w) k =
-        let v : 47 + n .0 ≡ 48 + (n .0 - 1) = omega (arith, literal-mode ok rule m n w k .0) in
-        code-true (assigned belts σ) (47 + n .0) w
+        let v : lastPlace + n .0 ≡ maxNamed + (n .0 - 1) = omega (arith, literal-mode ok rule m n w k .0) in
+        code-true (assigned belts σ) (lastPlace + n .0) w
         ∙ ap (λ (t : Bool). Bool·beq t w)
-        (ap (λ (i : ℕ). inMask (assigned belts σ) (At i)) v ∙ high-bits belts σ 48 (n .0 - 1) belts-low)
+        (ap (λ (i : ℕ). inMask (assigned belts σ) (At i)) v ∙ high-bits belts σ maxNamed (n .0 - 1) belts-low)
 
     pub literal-true : (σ l : ℕ) → IsLiteral b l
         → isTrue (assigned belts σ) (codeIn (namedPlaces b) (literalAt b l)) ≡ holds (hasBelt b belts) σ (literalAt b l)

@@ -31,6 +31,7 @@ use lib.ListN.{length, getD, set, replicate, length-set, length-map, length-repl
 use lib.Seq.{getD-set-same, getD-set-other}
 use lib.Dec.{eqb}
 use borrow.Author.Tests.{eqb-true, eqb-false}
+use Rattle.plan.specs.Bounds.{fieldLimit, maxRecords}
 use Rattle.plan.specs.Lists.{mem, joined, run}
 use Rattle.plan.specs.Records.{records}
 use Rattle.plan.specs.Plan.{literalAt}
@@ -77,7 +78,7 @@ module _ (f : ℕ → ℕ) where
 
 -- ---- entries
 
-below : (n : ℕ) → ((n ≡ 0 → ⊥) → n < 2048) → n < 2048
+below : (n : ℕ) → ((n ≡ 0 → ⊥) → n < maxRecords) → n < maxRecords
 below zero h = omega arith
 below (suc n) h = h (λ e. omega arith)
 
@@ -95,17 +96,17 @@ clauses-lent {b} n {cs} h e =
     record { whole = e ∙ sym (ap (λ (m : ℕ). clausesIn m b) size); room = omega arith }
 
 -- a number of two parts
-parts : (x y n : ℕ) → n ≡ x + 65536 * y → x < 2048 → (n % 65536 ≡ x) × (n / 65536 ≡ y)
+parts : (x y n : ℕ) → n ≡ x + fieldLimit * y → x < maxRecords → (n % fieldLimit ≡ x) × (n / fieldLimit ≡ y)
 parts x y n e h = (omega arith, omega arith)
 
 module _ {b : List ℕ} (ok : Accepted b) where
-  pub next-rule-low : (r : ℕ) → IsRule b r → nextRule b r < 2048
+  pub next-rule-low : (r : ℕ) → IsRule b r → nextRule b r < maxRecords
   next-rule-low r o = below (nextRule b r) (λ d. rule-low ok (nextRule b r) (next-rule-is ok r o d .1) .2)
 
-  pub first-literal-low : (r : ℕ) → IsRule b r → firstLiteral b r < 2048
+  pub first-literal-low : (r : ℕ) → IsRule b r → firstLiteral b r < maxRecords
   first-literal-low r o = below (firstLiteral b r) (λ d. literal-low ok (firstLiteral b r) (first-literal-is ok r o d) .2)
 
-  pub next-literal-low : (l : ℕ) → IsLiteral b l → nextLiteral b l < 2048
+  pub next-literal-low : (l : ℕ) → IsLiteral b l → nextLiteral b l < maxRecords
   next-literal-low l o = below (nextLiteral b l) (λ d. literal-low ok (nextLiteral b l) (next-literal-is ok l o d .1) .2)
 
   rule-entry : (r : ℕ) → IsRule b r → entryOf b r ≡ ruleEntry b r
@@ -128,13 +129,13 @@ module _ {b : List ℕ} (ok : Accepted b) where
     unfolding entryOf
     first-entry = entry-in 0 (omega (arith, records-more ok))
 
-    pub rule-parts : (r : ℕ) → IsRule b r → (getD clauses r 0 % 65536 ≡ nextRule b r) × (getD clauses r 0 / 65536 ≡ firstLiteral b r)
+    pub rule-parts : (r : ℕ) → IsRule b r → (getD clauses r 0 % fieldLimit ≡ nextRule b r) × (getD clauses r 0 / fieldLimit ≡ firstLiteral b r)
     rule-parts r o =
         parts (nextRule b r) (firstLiteral b r) (getD clauses r 0)
         (entry-in r (rule-low ok r o .1) ∙ rule-entry r o) (next-rule-low r o)
 
     pub literal-parts : (l : ℕ) → IsLiteral b l
-        → (getD clauses l 0 % 65536 ≡ nextLiteral b l) × (getD clauses l 0 / 65536 ≡ codeIn (namedPlaces b) (literalAt b l))
+        → (getD clauses l 0 % fieldLimit ≡ nextLiteral b l) × (getD clauses l 0 / fieldLimit ≡ codeIn (namedPlaces b) (literalAt b l))
     literal-parts l o =
         parts (nextLiteral b l) (codeIn (namedPlaces b) (literalAt b l)) (getD clauses l 0)
         (entry-in l (literal-low ok l o .1) ∙ literal-entry l o) (next-literal-low l o)
@@ -160,11 +161,11 @@ module _ {b : List ℕ} (ok : Accepted b) where
     literals-end e = sym (ap (stores (entryOf b) now) (ap (literalChain b) e ∙ literal-chain-end ok)) ∙ h .whole
 
     pub literals-stored : (d : l ≡ 0 → ⊥) (n : ℕ) → n ≡ nextLiteral b l → {places : List ℕ} → places ≡ namedPlaces b
-        → (c : ℕ) → c ≡ codeIn places (literalAt b l) → LiteralsStored b old first (set now l (n + 65536 * c)) n
+        → (c : ℕ) → c ≡ codeIn places (literalAt b l) → LiteralsStored b old first (set now l (n + fieldLimit * c)) n
     literals-stored d n s {places} all c q =
         let o = h .is-literal d in
         let code : c ≡ codeIn (namedPlaces b) (literalAt b l) = q ∙ ap (λ (ps : List ℕ). codeIn ps (literalAt b l)) all in
-        let entry : n + 65536 * c ≡ entryOf b l = (λ i. s i + 65536 * code i) ∙ sym (literal-entry ok l o) in
+        let entry : n + fieldLimit * c ≡ entryOf b l = (λ i. s i + fieldLimit * code i) ∙ sym (literal-entry ok l o) in
         record {
           is-literal = λ z. subst (IsLiteral b) (sym s) (next-literal-is ok l o (λ e. z (s ∙ e)) .1);
           whole = (λ i. stores (entryOf b) (set now l (entry i)) (literalChain b (s i)))
@@ -235,11 +236,11 @@ module _ {b : List ℕ} (ok : Accepted b) where
         sym (ap (λ (is : List ℕ). stores (entryOf b) now (joined (recordsOf b) is)) (ap (ruleChain b) e ∙ rule-chain-end ok)) ∙ h .whole ∙ all-stored n
 
     pub rules-stored : (d : r ≡ 0 → ⊥) (m l : ℕ) → m ≡ nextRule b r → l ≡ firstLiteral b r
-        → (put : List ℕ) → put ≡ stores (entryOf b) (set now r (m + 65536 * l)) (literalChain b (firstLiteral b r)) → RulesStored b n put m
+        → (put : List ℕ) → put ≡ stores (entryOf b) (set now r (m + fieldLimit * l)) (literalChain b (firstLiteral b r)) → RulesStored b n put m
     rules-stored d m l s q put w =
         let o = h .is-rule d in
         let f = entryOf b in
-        let entry : m + 65536 * l ≡ f r = (λ i. s i + 65536 * q i) ∙ sym (rule-entry ok r o) in
+        let entry : m + fieldLimit * l ≡ f r = (λ i. s i + fieldLimit * q i) ∙ sym (rule-entry ok r o) in
         record {
           is-rule = λ z. subst (IsRule b) (sym s) (next-rule-is ok r o (λ e. z (s ∙ e)) .1);
           whole = (λ i. stores f (w i) (recordsFrom b (s i)))

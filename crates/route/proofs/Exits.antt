@@ -23,6 +23,7 @@ use lib.ListN.{length, getD, set, replicate, length-set, length-replicate, getD-
 use lib.Seq.{getD-set-same, getD-set-other}
 use lib.Dec.{eqb, ltb}
 use borrow.Author.Tests.{ne-eqb, ltb-true, ltb-false}
+use Rattle.plan.specs.Bounds.{junctionPlaces, maxRecords}
 use Rattle.plan.specs.Lists.{any, mem, upto}
 use Rattle.plan.specs.Plan.{Belt, planOf, namesOf, leaving, named}
 use Rattle.plan.specs.Reading.{Accepted}
@@ -40,14 +41,14 @@ exit-mask b u = maskOf b (namesOf (leaving (planOf b) u))
 
 -- ---- the array of masks
 
-exit-at : (b : List ℕ) (u : ℕ) → u < 257 → getD (exitsOf b) u 0 ≡ exit-mask b u
+exit-at : (b : List ℕ) (u : ℕ) → u < junctionPlaces → getD (exitsOf b) u 0 ≡ exit-mask b u
 unfolding exitsOf
-exit-at b u h = getD-first (exit-mask b) 257 u 0 h
+exit-at b u h = getD-first (exit-mask b) junctionPlaces u 0 h
 
 pub record Filled (b : List ℕ) (u : ℕ) (exits : List ℕ) : Type 0 where
-  pub size : length exits ≡ 257
+  pub size : length exits ≡ junctionPlaces
   done : (j : ℕ) → j < u → getD exits j 0 ≡ exit-mask b j
-  fresh : (j : ℕ) → u ≤ j → j < 257 → getD exits j 0 ≡ 0
+  fresh : (j : ℕ) → u ≤ j → j < junctionPlaces → getD exits j 0 ≡ 0
 
 module _ {b : List ℕ} (ok : Accepted b) where
   -- no belt leaves what is no junction
@@ -58,17 +59,17 @@ module _ {b : List ℕ} (ok : Accepted b) where
       let (low, up, top) = belt-ends ok e m in
       ne-eqb (e .leaves) u (λ q. out (omega arith) (omega arith))))
 
-  start : (n : ℕ) → n ≡ 257 → Filled b 1 (replicate n 0)
+  start : (n : ℕ) → n ≡ junctionPlaces → Filled b 1 (replicate n 0)
   start n size = record {
     size = length-replicate n 0 ∙ size;
     done = λ j l. getD-replicate n j 0 0 (omega arith) ∙ sym (none-leave j (λ h k. omega arith));
     fresh = λ j l k. getD-replicate n j 0 0 (omega arith);
   }
 
-  pub filled-start : Filled b 1 (replicate 257 0)
-  filled-start = start 257 refl
+  pub filled-start : Filled b 1 (replicate junctionPlaces 0)
+  filled-start = start junctionPlaces refl
 
-  pub filled-next : {u v : ℕ} {exits : List ℕ} → u < 257 → Filled b u exits → v ≡ exit-mask b u → Filled b (u + 1) (set exits u v)
+  pub filled-next : {u v : ℕ} {exits : List ℕ} → u < junctionPlaces → Filled b u exits → v ≡ exit-mask b u → Filled b (u + 1) (set exits u v)
   filled-next {u} {v} {exits} h f e = record {
     size = length-set exits u v ∙ f .size;
     done = λ j l. go j (eq-or-lt-of-le l);
@@ -86,9 +87,9 @@ module _ {b : List ℕ} (ok : Accepted b) where
 
   pub filled-end : {u : ℕ} {exits : List ℕ} → planOf b .junctions < u → Filled b u exits → exits ≡ exitsOf b
   unfolding exitsOf
-  filled-end {u} {exits} past f = map-first (exit-mask b) 257 0 exits (f .size) (λ j l. go j l (test (ltb j u)))
+  filled-end {u} {exits} past f = map-first (exit-mask b) junctionPlaces 0 exits (f .size) (λ j l. go j l (test (ltb j u)))
     where
-      go : (j : ℕ) → j < 257 → (ltb j u ≡ true) ⊎ (ltb j u ≡ false) → getD exits j 0 ≡ exit-mask b j
+      go : (j : ℕ) → j < junctionPlaces → (ltb j u ≡ true) ⊎ (ltb j u ≡ false) → getD exits j 0 ≡ exit-mask b j
       go j l (inl k) = f .done j (ltb-true j u k)
       go j l (inr k) = let late = ltb-false j u k in f .fresh j late l ∙ sym (none-leave j (λ h i. omega arith))
 
@@ -98,17 +99,17 @@ module _ {b : List ℕ} (ok : Accepted b) where
   ns = named (planOf b)
 
   -- the mask of a junction has a named belt exactly when it leaves the junction
-  exit-has : (u e : ℕ) → u < 257 → List·Memᴰ e ns → fixes ns (getD (exitsOf b) u 0) e ≡ mem e (namesOf (leaving (planOf b) u))
+  exit-has : (u e : ℕ) → u < junctionPlaces → List·Memᴰ e ns → fixes ns (getD (exitsOf b) u 0) e ≡ mem e (namesOf (leaving (planOf b) u))
   exit-has u e l i =
       ap (λ (m : ℕ). fixes ns m e) (exit-at b u l)
       ∙ gathered-from (named-rises b) refl (namesOf (leaving (planOf b) u)) low e i
     where
-      low : (n : ℕ) → List·Memᴰ n (namesOf (leaving (planOf b) u)) → n < 2048
+      low : (n : ℕ) → List·Memᴰ n (namesOf (leaving (planOf b) u)) → n < maxRecords
       low n m =
           let (g, k, q) = map-in (λ (f : Belt). f .name) (leaving (planOf b) u) m in
           omega (arith, q, belt-low ok (g .name) (belt-of ok g (leaving-in (planOf b) u g k .0) .0) .2)
 
-  module _ (f : Fixings) (u : ℕ) (l : u < 257) where
+  module _ (f : Fixings) (u : ℕ) (l : u < junctionPlaces) where
     pub required-hit : (e : Belt) → List·Memᴰ e (leaving (planOf b) u) → isRequired (subproblemIn b f) e ≡ true
         → fixes (named (planOf b)) (bitAnd (getD (exitsOf b) u 0) (f .required)) (e .name) ≡ true
     required-hit e m w =
@@ -143,7 +144,7 @@ module _ {b : List ℕ} (ok : Accepted b) where
       ∙ ap (λ (t : Bool). t || any (λ (u : ℕ). fixes ns (getD masks u 0) e) us) (joined-fixes ns m (getD masks u 0) e)
       ∙ or-assoc (fixes ns m e) (fixes ns (getD masks u 0) e) (any (λ (u : ℕ). fixes ns (getD masks u 0) e) us)
 
-  module _ (f : Fixings) (s t : ℕ) (top : t ≤ 257) where
+  module _ (f : Fixings) (s t : ℕ) (top : t ≤ junctionPlaces) where
     abbrev inside : ℕ
     inside = joinedIn (exitsOf b) 0 (upto s t)
 

@@ -29,6 +29,7 @@ use lib.Dec.{eqb, ltb}
 use borrow.Author.Tests.{eqb-true, eq-eqb, ne-eqb}
 use Rattle.plan.specs.declared.named.Place.{Place}
 use Rattle.plan.specs.declared.named.Place.the-variants.{At, Unnamed}
+use Rattle.plan.specs.Bounds.{maxRecords}
 use Rattle.plan.specs.Lists.{count, mem}
 use Rattle.plan.specs.Plan.{planOf, namesOf, named, placeBy, placeOf, placesOf, placeIn}
 use Rattle.plan.specs.Reading.{Accepted}
@@ -66,7 +67,7 @@ nothing-has ns e = go (mem e ns)
     go true = ap (λ (n : ℕ). eqb (n % 2) 1) (zero-div (2 ^ count (λ (n : ℕ). ltb n e) ns))
     go false = refl
 
-pub looked-up : (b : List ℕ) {places : List ℕ} {q : Place} (e : ℕ) → places ≡ namedPlaces b → q ≡ placeIn places e → e < 2048
+pub looked-up : (b : List ℕ) {places : List ℕ} {q : Place} (e : ℕ) → places ≡ namedPlaces b → q ≡ placeIn places e → e < maxRecords
     → q ≡ placeOf (named (planOf b)) e
 looked-up b e all one low = one ∙ ap (λ (l : List ℕ). placeIn l e) all ∙ place-is (named (planOf b)) e low
 
@@ -147,7 +148,7 @@ module _ {ns : List ℕ} (rises : Rises ns) where
           ∙ sym (ap (λ (s : Bool). fixes ns m e || s) apart ∙ or-false (fixes ns m e))
 
   -- gathered to a mask
-  gathered-has : {places : List ℕ} → places ≡ placesOf ns → (m : ℕ) (es : List ℕ) → ((e : ℕ) → List·Memᴰ e es → e < 2048)
+  gathered-has : {places : List ℕ} → places ≡ placesOf ns → (m : ℕ) (es : List ℕ) → ((e : ℕ) → List·Memᴰ e es → e < maxRecords)
       → (e : ℕ) → List·Memᴰ e ns → fixes ns (gatheredIn places m es) e ≡ (fixes ns m e || mem e es)
   gathered-has {places} all m [] low e i = sym (or-false (fixes ns m e))
   gathered-has {places} all m (x ∷ es) low e i =
@@ -156,7 +157,7 @@ module _ {ns : List ℕ} (rises : Rises ns) where
       ∙ ap (λ (t : Bool). t || mem e es) (ap (λ (q : Place). fixes ns (withPlace m q) e) there ∙ with-any m x e i)
       ∙ or-assoc (fixes ns m e) (eqb e x) (mem e es)
 
-  pub gathered-from : {places : List ℕ} → places ≡ placesOf ns → (es : List ℕ) → ((e : ℕ) → List·Memᴰ e es → e < 2048)
+  pub gathered-from : {places : List ℕ} → places ≡ placesOf ns → (es : List ℕ) → ((e : ℕ) → List·Memᴰ e es → e < maxRecords)
       → (e : ℕ) → List·Memᴰ e ns → fixes ns (gatheredIn places 0 es) e ≡ mem e es
   gathered-from all es low e i = gathered-has all 0 es low e i ∙ ap (λ (t : Bool). t || mem e es) (nothing-has ns e)
 
@@ -168,7 +169,7 @@ module _ {ns : List ℕ} (rises : Rises ns) where
       go (inl t) = with-low m x (mem-in ns t) h
       go (inr t) = subst (λ (s : Bool). withPlace m (placeBy s (lower x)) < 2 ^ length ns) (sym t) h
 
-  gathered-below : {places : List ℕ} → places ≡ placesOf ns → (m : ℕ) (es : List ℕ) → ((e : ℕ) → List·Memᴰ e es → e < 2048)
+  gathered-below : {places : List ℕ} → places ≡ placesOf ns → (m : ℕ) (es : List ℕ) → ((e : ℕ) → List·Memᴰ e es → e < maxRecords)
       → m < 2 ^ length ns → gatheredIn places m es < 2 ^ length ns
   gathered-below {places} all m [] low h = h
   gathered-below {places} all m (x ∷ es) low h =
@@ -176,6 +177,6 @@ module _ {ns : List ℕ} (rises : Rises ns) where
       gathered-below all (withPlace m (placeIn places x)) es (λ y j. low y (List·Memᴰ·tail j))
       (subst (λ (q : Place). withPlace m q < 2 ^ length ns) (sym there) (with-any-low m x h))
 
-  pub gathered-low : {places : List ℕ} → places ≡ placesOf ns → (es : List ℕ) → ((e : ℕ) → List·Memᴰ e es → e < 2048)
+  pub gathered-low : {places : List ℕ} → places ≡ placesOf ns → (es : List ℕ) → ((e : ℕ) → List·Memᴰ e es → e < maxRecords)
       → gatheredIn places 0 es < 2 ^ length ns
   gathered-low all es low = gathered-below all 0 es low (pow-pos (length ns))

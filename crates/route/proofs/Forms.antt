@@ -17,6 +17,7 @@ use native.Mathlib.Numerals.{add-one}
 use lib.ListN.{length, set}
 use lib.Seq.{sets}
 use borrow.Author.Tests.{eq-eqb, ne-eqb, le-leb, lt-leb}
+use Rattle.plan.specs.Bounds.{maxSheetBytes, recordBytes}
 use Rattle.plan.specs.Lists.{all, upto}
 use Rattle.plan.specs.declared.read.BeltId.{BeltId}
 use Rattle.plan.specs.Records.{field}
@@ -27,26 +28,26 @@ use Rattle.route.specs.Sheets.{headFits, stepFits, places, inForm}
 -- ---- the form
 
 module _ (h : List ℕ) where
-  pub form-short : length h < 12 → inForm h ≡ false
+  pub form-short : length h < recordBytes → inForm h ≡ false
   unfolding inForm
-  form-short a = rw (lt-leb 12 (length h) a)
+  form-short a = rw (lt-leb recordBytes (length h) a)
 
-  pub form-long : 12 ≤ length h → 3072 < length h → inForm h ≡ false
+  pub form-long : recordBytes ≤ length h → maxSheetBytes < length h → inForm h ≡ false
   unfolding inForm
-  form-long a b = rw (le-leb 12 (length h) a, lt-leb (length h) 3072 b)
+  form-long a b = rw (le-leb recordBytes (length h) a, lt-leb (length h) maxSheetBytes b)
 
-  pub form-odd : 12 ≤ length h → length h ≤ 3072 → (length h % 12 ≡ 0 → ⊥) → inForm h ≡ false
+  pub form-odd : recordBytes ≤ length h → length h ≤ maxSheetBytes → (length h % recordBytes ≡ 0 → ⊥) → inForm h ≡ false
   unfolding inForm
-  form-odd a b n = rw (le-leb 12 (length h) a, le-leb (length h) 3072 b, ne-eqb (length h % 12) 0 n)
+  form-odd a b n = rw (le-leb recordBytes (length h) a, le-leb (length h) maxSheetBytes b, ne-eqb (length h % recordBytes) 0 n)
 
-  sized : 12 ≤ length h → length h ≤ 3072 → length h % 12 ≡ 0 → inForm h ≡ (headFits h && all (stepFits h) (places h))
+  sized : recordBytes ≤ length h → length h ≤ maxSheetBytes → length h % recordBytes ≡ 0 → inForm h ≡ (headFits h && all (stepFits h) (places h))
   unfolding inForm
-  sized a b e = rw (le-leb 12 (length h) a, le-leb (length h) 3072 b, eq-eqb (length h % 12) 0 e)
+  sized a b e = rw (le-leb recordBytes (length h) a, le-leb (length h) maxSheetBytes b, eq-eqb (length h % recordBytes) 0 e)
 
-  pub form-head : 12 ≤ length h → length h ≤ 3072 → length h % 12 ≡ 0 → headFits h ≡ false → inForm h ≡ false
+  pub form-head : recordBytes ≤ length h → length h ≤ maxSheetBytes → length h % recordBytes ≡ 0 → headFits h ≡ false → inForm h ≡ false
   form-head a b e f = sized a b e ∙ ap (λ (t : Bool). t && all (stepFits h) (places h)) f
 
-  pub form-steps : 12 ≤ length h → length h ≤ 3072 → length h % 12 ≡ 0 → headFits h ≡ true → all (stepFits h) (places h) ≡ inForm h
+  pub form-steps : recordBytes ≤ length h → length h ≤ maxSheetBytes → length h % recordBytes ≡ 0 → headFits h ≡ true → all (stepFits h) (places h) ≡ inForm h
   form-steps a b e f = sym (sized a b e ∙ ap (λ (t : Bool). t && all (stepFits h) (places h)) f)
 
 -- ---- the belts

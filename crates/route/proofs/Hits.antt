@@ -21,6 +21,7 @@ use lib.Dec.{eqb, ltb}
 use borrow.Author.Tests.{eqb-true, eq-eqb, ltb-true, ltb-false}
 use Rattle.plan.specs.declared.read.BeltId.{BeltId}
 use Rattle.plan.specs.declared.named.Place.the-variants.{At}
+use Rattle.plan.specs.Bounds.{junctionPlaces}
 use Rattle.plan.specs.Lists.{counted, count}
 use Rattle.plan.specs.Plan.{Belt, planOf, beltAt, leaving, named, beltId, listed, placeOf}
 use Rattle.plan.specs.Reading.{Accepted, IsBelt}
@@ -52,7 +53,7 @@ fewer a c h (n ∷ ns) = go (ltb n a) (ltb n c) refl refl (fewer a c h ns)
     go false true p q l = omega arith
     go false false p q l = l
 
-module _ {b : List ℕ} (ok : Accepted b) (f : Fixings) (u : ℕ) (l : u < 257) (few : OfNamed b (f .required)) {hit : ℕ}
+module _ {b : List ℕ} (ok : Accepted b) (f : Fixings) (u : ℕ) (l : u < junctionPlaces) (few : OfNamed b (f .required)) {hit : ℕ}
     (is : hit ≡ bitAnd (getD (exitsOf b) u 0) (f .required)) (some : hit ≡ 0 → ⊥) where
   abbrev ns : List ℕ
   ns = named (planOf b)

@@ -18,6 +18,7 @@ use native.Mathlib.Omega.{arith}
 use Rattle.plan.specs.declared.read.BeltId.{BeltId}
 use Rattle.plan.specs.declared.read.Literal.{Literal}
 use Rattle.plan.specs.declared.read.Literal.the-variants.{OfBelt, OfMode}
+use Rattle.plan.specs.Bounds.{maxRecords}
 use Rattle.plan.specs.Lists.{mem, run}
 use Rattle.plan.specs.Plan.{Belt, planOf, namesOf, named}
 use Rattle.plan.specs.Reading.{Accepted, IsBelt}
@@ -57,7 +58,7 @@ module _ {b : List ℕ} (ok : Accepted b) where
   passes-named : (es : List ℕ) → ((e : ℕ) → List·Memᴰ e es → IsBelt b e) → (e : ℕ) → passes (beltsByName (planOf b) es) e ≡ mem e es
   passes-named es h e = passes-names (beltsByName (planOf b) es) e ∙ ap (mem e) (ap namesOf (named-map ok es h) ∙ names-back b es)
 
-  pub known-low : (r : Route) → Known b r → (e : ℕ) → List·Memᴰ e (idsOf r) → e < 2048
+  pub known-low : (r : Route) → Known b r → (e : ℕ) → List·Memᴰ e (idsOf r) → e < maxRecords
   known-low r k e m = belt-low ok e (k .belts e m) .2
 
   pub route-placeable : (r : Route) → Known b r → {places : List ℕ} → places ≡ namedPlaces b → Placeable places r
@@ -66,7 +67,7 @@ module _ {b : List ℕ} (ok : Accepted b) where
     low = λ e m. (known-low r k e m, subst LowPlace (sym (looked-up b e all refl (known-low r k e m))) (place-low ok e));
   }
 
-  pub mask-named : (es : List ℕ) → ((e : ℕ) → List·Memᴰ e es → e < 2048) → OfNamed b (maskOf b es)
+  pub mask-named : (es : List ℕ) → ((e : ℕ) → List·Memᴰ e es → e < maxRecords) → OfNamed b (maskOf b es)
   mask-named es low = gathered-low (named-rises b) refl es low
 
   -- the mask tells of each named belt what the route does
@@ -76,7 +77,7 @@ module _ {b : List ℕ} (ok : Accepted b) where
       gathered-from (named-rises b) refl (idsOf r) (known-low r k) e i ∙ sym (passes-named (idsOf r) (k .belts) e)
 
   -- so does that of any belts of the plan
-  names-low : (r : List Belt) → ((e : Belt) → List·Memᴰ e r → List·Memᴰ e (planOf b .belts)) → (e : ℕ) → List·Memᴰ e (namesOf r) → e < 2048
+  names-low : (r : List Belt) → ((e : Belt) → List·Memᴰ e r → List·Memᴰ e (planOf b .belts)) → (e : ℕ) → List·Memᴰ e (namesOf r) → e < maxRecords
   names-low r h e m =
       let (f, i, q) = map-in (λ (f : Belt). f .name) r m in
       let low = belt-low ok (f .name) (belt-of ok f (h f i) .0) .2 in

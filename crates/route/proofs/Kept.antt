@@ -20,20 +20,21 @@ use lib.ListN.{length, getD, set, replicate, length-set, length-replicate, getD-
 use lib.Seq.{getD-set-same, getD-set-other, ext-getD}
 use lib.Dec.{ltb}
 use borrow.Author.Tests.{ltb-true, ltb-false}
+use Rattle.plan.specs.Bounds.{junctionPlaces, maxRecords}
 use Rattle.plan.specs.Plan.{beltId}
 use Rattle.plan.proofs.Lists.{test}
 use Rattle.route.specs.Inner.{costsIn, firstsIn, Spared}
 
-pub cost-at : (ws : List ℕ) (j : ℕ) → getD (costsIn ws) j 0 ≡ getD ws j 0 / 2048
-cost-at ws j = List·getD-map (λ (w : ℕ). w / 2048) ws j 0
+pub cost-at : (ws : List ℕ) (j : ℕ) → getD (costsIn ws) j 0 ≡ getD ws j 0 / maxRecords
+cost-at ws j = List·getD-map (λ (w : ℕ). w / maxRecords) ws j 0
 
-pub first-at : (ws : List ℕ) (j : ℕ) → getD (firstsIn ws) j (beltId 0) ≡ beltId (getD ws j 0 % 2048)
-first-at ws j = List·getD-map (λ (w : ℕ). beltId (w % 2048)) ws j 0
+pub first-at : (ws : List ℕ) (j : ℕ) → getD (firstsIn ws) j (beltId 0) ≡ beltId (getD ws j 0 % maxRecords)
+first-at ws j = List·getD-map (λ (w : ℕ). beltId (w % maxRecords)) ws j 0
 
-pub cost-of : (c e : ℕ) → e < 2048 → (c * 2048 + e) / 2048 ≡ c
+pub cost-of : (c e : ℕ) → e < maxRecords → (c * maxRecords + e) / maxRecords ≡ c
 cost-of c e l = omega arith
 
-pub first-of : (c e : ℕ) → e < 2048 → (c * 2048 + e) % 2048 ≡ e
+pub first-of : (c e : ℕ) → e < maxRecords → (c * maxRecords + e) % maxRecords ≡ e
 first-of c e l = omega arith
 
 map-set : {A B : Type 0} (f : A → B) (l : List A) (i : ℕ) (a : A) → map f (set l i a) ≡ set (map f l) i (f a)
@@ -41,16 +42,16 @@ map-set f [] i a = refl
 map-set f (x ∷ l) zero a = refl
 map-set f (x ∷ l) (suc i) a = ap (λ (r : List _). f x ∷ r) (map-set f l i a)
 
-pub costs-set : (ws : List ℕ) (u c e : ℕ) → e < 2048 → costsIn (set ws u (c * 2048 + e)) ≡ set (costsIn ws) u c
-costs-set ws u c e l = map-set (λ (w : ℕ). w / 2048) ws u (c * 2048 + e) ∙ ap (set (costsIn ws) u) (cost-of c e l)
+pub costs-set : (ws : List ℕ) (u c e : ℕ) → e < maxRecords → costsIn (set ws u (c * maxRecords + e)) ≡ set (costsIn ws) u c
+costs-set ws u c e l = map-set (λ (w : ℕ). w / maxRecords) ws u (c * maxRecords + e) ∙ ap (set (costsIn ws) u) (cost-of c e l)
 
-pub firsts-set : (ws : List ℕ) (u c e : ℕ) → e < 2048 → firstsIn (set ws u (c * 2048 + e)) ≡ set (firstsIn ws) u (beltId e)
-firsts-set ws u c e l = map-set (λ (w : ℕ). beltId (w % 2048)) ws u (c * 2048 + e) ∙ ap (λ (k : ℕ). set (firstsIn ws) u (beltId k)) (first-of c e l)
+pub firsts-set : (ws : List ℕ) (u c e : ℕ) → e < maxRecords → firstsIn (set ws u (c * maxRecords + e)) ≡ set (firstsIn ws) u (beltId e)
+firsts-set ws u c e l = map-set (λ (w : ℕ). beltId (w % maxRecords)) ws u (c * maxRecords + e) ∙ ap (λ (k : ℕ). set (firstsIn ws) u (beltId k)) (first-of c e l)
 
 -- an array of zeros has no costs, no belts and nothing stored
-pub kept-start : (s t : ℕ) (ws : List ℕ) → ws ≡ replicate 257 0
-    → (costsIn ws ≡ replicate 257 0) × (firstsIn ws ≡ replicate 257 (beltId 0)) × Spared s t ws
-kept-start s t ws q = start 257 refl q
+pub kept-start : (s t : ℕ) (ws : List ℕ) → ws ≡ replicate junctionPlaces 0
+    → (costsIn ws ≡ replicate junctionPlaces 0) × (firstsIn ws ≡ replicate junctionPlaces (beltId 0)) × Spared s t ws
+kept-start s t ws q = start junctionPlaces refl q
   where
     zeros : (n j : ℕ) → _≡_ {A = ℕ} (getD (replicate n 0) j 0) 0
     zeros zero j = refl
@@ -61,10 +62,10 @@ kept-start s t ws q = start 257 refl q
     mapped f zero = refl
     mapped f (suc n) = ap (λ (l : List _). f 0 ∷ l) (mapped f n)
 
-    start : (n : ℕ) → n ≡ 257 → ws ≡ replicate n 0 → (costsIn ws ≡ replicate n 0) × (firstsIn ws ≡ replicate n (beltId 0)) × Spared s t ws
+    start : (n : ℕ) → n ≡ junctionPlaces → ws ≡ replicate n 0 → (costsIn ws ≡ replicate n 0) × (firstsIn ws ≡ replicate n (beltId 0)) × Spared s t ws
     start n size e = (
-      ap costsIn e ∙ mapped (λ (w : ℕ). w / 2048) n,
-      ap firstsIn e ∙ mapped (λ (w : ℕ). beltId (w % 2048)) n,
+      ap costsIn e ∙ mapped (λ (w : ℕ). w / maxRecords) n,
+      ap firstsIn e ∙ mapped (λ (w : ℕ). beltId (w % maxRecords)) n,
       subst (Spared s t) (sym e) (record { size = length-replicate n 0 ∙ size; below = λ j l. zeros n j; above = λ j l. zeros n j }),
     )
 
@@ -77,7 +78,7 @@ spared-set {s} {t} {ws} u w l h k = record {
 
 -- ---- clearing
 
-pub spared-next : {s t : ℕ} {ws : List ℕ} → s < t → t ≤ 257 → Spared s t ws → Spared (s + 1) t (set ws s 0)
+pub spared-next : {s t : ℕ} {ws : List ℕ} → s < t → t ≤ junctionPlaces → Spared s t ws → Spared (s + 1) t (set ws s 0)
 spared-next {s} {t} {ws} l h k = record {
   size = length-set ws s 0 ∙ k .size;
   below = λ j i. go j i (eq-or-lt-of-le (low j i));
@@ -92,8 +93,8 @@ spared-next {s} {t} {ws} l h k = record {
     go j i (inr m) = getD-set-other ws s j 0 0 (λ q. omega arith) ∙ k .below j m
 
 -- where nothing is left between s and t, all is 0
-pub spared-cleared : {s t : ℕ} {ws : List ℕ} → t ≤ s → Spared s t ws → ws ≡ replicate 257 0
-spared-cleared {s} {t} {ws} l k = all 257 (k .size)
+pub spared-cleared : {s t : ℕ} {ws : List ℕ} → t ≤ s → Spared s t ws → ws ≡ replicate junctionPlaces 0
+spared-cleared {s} {t} {ws} l k = all junctionPlaces (k .size)
   where
     at : (j : ℕ) → (ltb j s ≡ true) ⊎ (ltb j s ≡ false) → getD ws j 0 ≡ 0
     at j (inl q) = k .below j (ltb-true j s q)

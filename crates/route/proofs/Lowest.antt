@@ -24,6 +24,7 @@ use native.Mathlib.Numerals.{sub-one}
 use lib.Pow.{pow-mono}
 use lib.Dec.{leb}
 use borrow.Author.Tests.{leb-true, leb-false}
+use Rattle.plan.specs.Bounds.{maxModes}
 use Rattle.plan.specs.Lists.{run}
 use Rattle.plan.proofs.Lists.{test, never, untrue, run-split}
 use Rattle.route.specs.Permission.{passes, works, Permitted, orElse, otherwise, find}
@@ -40,11 +41,11 @@ pub halves : (m : ℕ) → 1 ≤ m → 2 ^ (m - 1) + 2 ^ (m - 1) ≡ 2 ^ m
 halves zero h = absurd (omega arith)
 halves (suc k) h = rw (sub-one, pow-suc) (omega arith)
 
-pub weight : (m : ℕ) → m ≤ 10 → (1 * 2 ^ (m - 1)) % 65536 ≡ 2 ^ (m - 1)
+pub weight : (m : ℕ) → m ≤ maxModes → (1 * 2 ^ (m - 1)) % 65536 ≡ 2 ^ (m - 1)
 weight m h = shifted (m - 1) 16 (omega arith)
 
-pub all-modes : (m : ℕ) → m ≤ 10 → 2 ^ m ≤ 1024
-all-modes m h = pow-mono {i = m} {j = 10} h
+pub all-modes : (m : ℕ) → m ≤ maxModes → 2 ^ m ≤ 2 ^ maxModes
+all-modes m h = pow-mono {i = m} {j = maxModes} h
 
 module _ (f : ℕ → Bool) where
   -- ---- the first of a run

@@ -21,6 +21,7 @@ use lib.ListN.{length, getD, set, replicate, length-set, length-replicate, getD-
 use lib.Seq.{getD-set-same, getD-set-other}
 use lib.Dec.{ltb}
 use Rattle.plan.specs.declared.read.BeltId.{BeltId}
+use Rattle.plan.specs.Bounds.{junctionPlaces, maxRecords}
 use Rattle.plan.specs.Plan.{Belt, planOf, leaving, beltId}
 use Rattle.plan.specs.Reading.{Accepted, Bytes}
 use Rattle.plan.proofs.Lists.{any-some}
@@ -35,7 +36,7 @@ use Rattle.route.proofs.Ways.{Costs, Found, Nearest, nearest-start, nea
 
 pub record Passed (b : List ℕ) (x : Subproblem) (t u nearest : ℕ) (costs : List ℕ) (firsts : List BeltId) : Type 0 where
   pub inside : u ≤ t
-  sizes : (length costs ≡ 257) × (length firsts ≡ 257)
+  sizes : (length costs ≡ junctionPlaces) × (length firsts ≡ junctionPlaces)
   pub low : (j : ℕ) → getD costs j 0 ≤ costLimit
   pub priced : (j : ℕ) → u ≤ j → Costs b x t j (getD costs j 0)
   pub guides : (j : ℕ) → u ≤ j → Begins (planOf b) x t j (getD firsts j (beltId 0))
@@ -89,7 +90,7 @@ way-low x costs nearest n way (e ∷ es) h all =
 
 module _ {b : List ℕ} (ok : Accepted b) (bytes : Bytes b) (x : Subproblem) (t : ℕ) (inside : t ≤ planOf b .junctions) where
   -- the arrays by their size n, so that they are not written out
-  start : (n : ℕ) → n ≡ 257 → Passed b x t t t (replicate n 0) (replicate n (beltId 0))
+  start : (n : ℕ) → n ≡ junctionPlaces → Passed b x t t t (replicate n 0) (replicate n (beltId 0))
   start n size =
       let room = plan-sizes ok .1 in
       let at-t : (j : ℕ) → t ≤ j → j ≤ t → j ≡ t = λ j l h. omega arith in
@@ -102,8 +103,8 @@ module _ {b : List ℕ} (ok : Accepted b) (bytes : Bytes b) (x : Subproblem) (t 
         near = nearest-start;
       }
 
-  pub passed-start : Passed b x t t t (replicate 257 0) (replicate 257 (beltId 0))
-  passed-start = start 257 refl
+  pub passed-start : Passed b x t t t (replicate junctionPlaces 0) (replicate junctionPlaces (beltId 0))
+  passed-start = start junctionPlaces refl
 
   -- u is the junction before those that are done, and way is what its belts give
   module _ {v u nearest : ℕ} {costs : List ℕ} {firsts : List BeltId} {way : Way} (one : v ≡ suc u) (here : Passed b x t v nearest costs firsts)
@@ -115,10 +116,10 @@ module _ {b : List ℕ} (ok : Accepted b) (bytes : Bytes b) (x : Subproblem) (t 
     found = subst (Found b x t u) (sym same) (way-is ok bytes x t inside u nearest costs (done .inside) (done .near) (done .priced))
 
     -- so its belt is one of at most 2,048, and its cost at most costLimit
-    pub passed-low : (way .belt .0 < 2048) × (way .cost ≤ costLimit)
+    pub passed-low : (way .belt .0 < maxRecords) × (way .cost ≤ costLimit)
     passed-low = (
-      subst (λ (w : Way). w .belt .0 < 2048) (sym same)
-          (way-low x costs nearest 2048 noWay (leaving (planOf b) u) (omega arith) (λ e m. belt-low ok (e .name) (belt-of ok e (leaving-in (planOf b) u e m .0) .0) .2)),
+      subst (λ (w : Way). w .belt .0 < maxRecords) (sym same)
+          (way-low x costs nearest maxRecords noWay (leaving (planOf b) u) (omega arith) (λ e m. belt-low ok (e .name) (belt-of ok e (leaving-in (planOf b) u e m .0) .0) .2)),
       omega (arith, found .costBy, cost-low ok bytes x t inside u),
     )
 
@@ -126,7 +127,7 @@ module _ {b : List ℕ} (ok : Accepted b) (bytes : Bytes b) (x : Subproblem) (t 
     stored next near =
         let room = plan-sizes ok .1 in
         let past = done .inside in
-        let at : u < 257 = omega arith in
+        let at : u < junctionPlaces = omega arith in
         record {
           inside = omega arith;
           sizes = (length-set costs u (way .cost) ∙ done .sizes .0, length-set firsts u (way .belt) ∙ done .sizes .1);

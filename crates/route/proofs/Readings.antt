@@ -22,6 +22,7 @@ use Rattle.plan.specs.declared.read.BeltId.{BeltId}
 use lib.Seq.{getD-append-add, drop-cons}
 use lib.Dec.{eqb}
 use borrow.Author.Tests.{eqb-true, eq-eqb}
+use Rattle.plan.specs.Bounds.{fieldLimit, maxSheetBytes, maxSteps, recordBytes}
 use Rattle.plan.specs.Lists.{all, joined, run, within}
 use Rattle.plan.specs.Records.{field, fieldBytes, recordOf}
 use Rattle.plan.specs.Reading.{Bytes}
@@ -43,9 +44,9 @@ pub record IsStep (h : List ℕ) (i next e : ℕ) : Type 0 where
   pub fifth : field h i 5 ≡ 0
 
 pub record InForm (h : List ℕ) : Type 0 where
-  pub least : 12 ≤ length h
-  pub most : length h ≤ 3072
-  pub whole : length h % 12 ≡ 0
+  pub least : recordBytes ≤ length h
+  pub most : length h ≤ maxSheetBytes
+  pub whole : length h % recordBytes ≡ 0
   pub kind : field h 0 0 ≡ 8
   pub next : field h 0 1 ≡ nextOf (steps h) 0
   pub step : (i : ℕ) → 1 ≤ i → i < steps h + 1 → IsStep h i (nextOf (steps h) i) (field h i 2)
@@ -80,17 +81,17 @@ is-step h i e s =
 pub form-is : (h : List ℕ) → inForm h ≡ true → InForm h
 unfolding inForm
 form-is h t =
-    let size : Bool = within 12 (length h) 3072 in
-    let whole : Bool = eqb (length h % 12) 0 in
+    let size : Bool = within recordBytes (length h) maxSheetBytes in
+    let whole : Bool = eqb (length h % recordBytes) 0 in
     let a = both (size && whole && headFits h) (all (stepFits h) (places h)) t in
     let b = both (size && whole) (headFits h) (a .0) in
     let c = both size whole (b .0) in
-    let d = within-is 12 (length h) 3072 (c .0) in
+    let d = within-is recordBytes (length h) maxSheetBytes (c .0) in
     let e = both (eqb (field h 0 0) 8) (eqb (field h 0 1) (nextOf (steps h) 0)) (b .1) in
     record {
       least = d .0;
       most = d .1;
-      whole = eqb-true (length h % 12) 0 (c .1);
+      whole = eqb-true (length h % recordBytes) 0 (c .1);
       kind = eqb-true (field h 0 0) 8 (e .0);
       next = eqb-true (field h 0 1) (nextOf (steps h) 0) (e .1);
       step = λ i l u. step-is h i (all-in (stepFits h) (places h) (a .1) (in-upto 1 (steps h + 1) i l u));
@@ -100,8 +101,8 @@ is-form : (h : List ℕ) → InForm h → inForm h ≡ true
 unfolding inForm
 is-form h f =
     let each = all-is (stepFits h) (places h) (λ i m. let u = upto-in 1 (steps h + 1) i m in is-step h i (field h i 2) (f .step i (u .0) (u .1))) in
-    λ k. is-within 12 (length h) 3072 (f .least) (f .most) k
-    && eq-eqb (length h % 12) 0 (f .whole) k
+    λ k. is-within recordBytes (length h) maxSheetBytes (f .least) (f .most) k
+    && eq-eqb (length h % recordBytes) 0 (f .whole) k
     && (eq-eqb (field h 0 0) 8 (f .kind) k && eq-eqb (field h 0 1) (nextOf (steps h) 0) (f .next) k)
     && each k
 
@@ -115,11 +116,11 @@ bytes-back n = omega arith
 module _ (a b c d e f : ℕ) (rest : List ℕ) where
   field-next : (i j : ℕ) → field (recordOf a b c d e f ++ rest) (suc i) j ≡ field rest i j
   field-next i j =
-      let x : 12 * suc i + 2 * j ≡ 12 + (12 * i + 2 * j) = omega arith in
-      let y : 12 * suc i + 2 * j + 1 ≡ 12 + (12 * i + 2 * j + 1) = omega arith in
+      let x : recordBytes * suc i + 2 * j ≡ recordBytes + (recordBytes * i + 2 * j) = omega arith in
+      let y : recordBytes * suc i + 2 * j + 1 ≡ recordBytes + (recordBytes * i + 2 * j + 1) = omega arith in
       let at : ℕ → ℕ = λ n. getD (recordOf a b c d e f ++ rest) n 0 in
-      let p = ap at x ∙ getD-append-add (recordOf a b c d e f) rest (12 * i + 2 * j) 0 in
-      let q = ap at y ∙ getD-append-add (recordOf a b c d e f) rest (12 * i + 2 * j + 1) 0 in
+      let p = ap at x ∙ getD-append-add (recordOf a b c d e f) rest (recordBytes * i + 2 * j) 0 in
+      let q = ap at y ∙ getD-append-add (recordOf a b c d e f) rest (recordBytes * i + 2 * j + 1) 0 in
       λ k. p k * 256 + q k
 
   step-next : (i next g : ℕ) → IsStep rest i next g → IsStep (recordOf a b c d e f ++ rest) (suc i) next g
@@ -151,11 +152,11 @@ step-back n i (e ∷ es) (suc k) l =
     subst (λ (j : ℕ). IsStep (stepsFrom n i (e ∷ es)) (suc k) (nextOf n j) (getD es k 0)) q
     (step-next 5 (nextOf n i) e 0 0 0 (stepsFrom n (suc i) es) k (nextOf n (suc i + k)) (getD es k 0) below)
 
-pub length-steps : (n i : ℕ) (es : List ℕ) → length (stepsFrom n i es) ≡ 12 * length es
+pub length-steps : (n i : ℕ) (es : List ℕ) → length (stepsFrom n i es) ≡ recordBytes * length es
 length-steps n i [] = refl
 length-steps n i (e ∷ es) = omega (arith, length-steps n (suc i) es)
 
-pub length-sheet : (es : List ℕ) (c σ : ℕ) → length (sheetOf es c σ) ≡ 12 * length es + 12
+pub length-sheet : (es : List ℕ) (c σ : ℕ) → length (sheetOf es c σ) ≡ recordBytes * length es + recordBytes
 length-sheet es c σ = omega (arith, length-steps (length es) 1 es)
 
 -- ---- the round trip
@@ -172,7 +173,7 @@ module _ (es : List ℕ) (c σ : ℕ) where
       let q : suc k ≡ 1 + k = omega arith in
       let n : ℕ = length es in
       subst (λ (j : ℕ). IsStep sheet j (nextOf n (1 + k)) (getD es k 0)) q
-      (step-next 8 (nextOf n 0) (c / 4294967296) (c / 65536 % 65536) (c % 65536) σ (stepsFrom n 1 es) k (nextOf n (1 + k)) (getD es k 0)
+      (step-next 8 (nextOf n 0) (c / (fieldLimit * fieldLimit)) (c / fieldLimit % fieldLimit) (c % fieldLimit) σ (stepsFrom n 1 es) k (nextOf n (1 + k)) (getD es k 0)
       (step-back n 1 es k l))
 
   belts-back : beltsOn sheet ≡ es
@@ -182,18 +183,18 @@ module _ (es : List ℕ) (c σ : ℕ) where
 
   cost-back : costOn sheet ≡ c
   cost-back =
-      let p : field sheet 0 2 ≡ c / 4294967296 = bytes-back (c / 4294967296) in
-      let q : field sheet 0 3 ≡ c / 65536 % 65536 = bytes-back (c / 65536 % 65536) in
-      let r : field sheet 0 4 ≡ c % 65536 = bytes-back (c % 65536) in
-      (λ k. p k * 4294967296 + q k * 65536 + r k) ∙ whole
+      let p : field sheet 0 2 ≡ c / (fieldLimit * fieldLimit) = bytes-back (c / (fieldLimit * fieldLimit)) in
+      let q : field sheet 0 3 ≡ c / fieldLimit % fieldLimit = bytes-back (c / fieldLimit % fieldLimit) in
+      let r : field sheet 0 4 ≡ c % fieldLimit = bytes-back (c % fieldLimit) in
+      (λ k. p k * (fieldLimit * fieldLimit) + q k * fieldLimit + r k) ∙ whole
     where
-      whole : c / 4294967296 * 4294967296 + c / 65536 % 65536 * 65536 + c % 65536 ≡ c
+      whole : c / (fieldLimit * fieldLimit) * (fieldLimit * fieldLimit) + c / fieldLimit % fieldLimit * fieldLimit + c % fieldLimit ≡ c
       whole = omega arith
 
   setting-back : settingOn sheet ≡ σ
   setting-back = bytes-back σ
 
-  form-back : length es ≤ 255 → InForm sheet
+  form-back : length es ≤ maxSteps → InForm sheet
   form-back short = record {
     least = omega (arith, length-sheet es c σ);
     most = omega (arith, length-sheet es c σ);
@@ -226,7 +227,7 @@ pub read-back : ReadBackLaw
 read-back v few fits =
     let es : List ℕ = idsOf (v .route) in
     let taken : List BeltId = take (v .route .count) (v .route .belts) in
-    let short : length es ≤ 255 =
+    let short : length es ≤ maxSteps =
     omega (arith, few, length-map taken (λ (e : BeltId). e .0), length-take (v .route .count) (v .route .belts)) in (
       is-form (bytesOf v) (form-back es (v .cost) (v .setting) short),
       λ i. record { route = packed (belts-back es (v .cost) (v .setting) i); cost = cost-back es (v .cost) (v .setting) i; setting = setting-back es (v .cost) (v .setting) i },
@@ -248,35 +249,35 @@ low : (x y : ℕ) → y < 256 → (x * 256 + y) % 256 ≡ y
 low x y v = omega arith
 
 -- a cost, out of its three fields
-top : (x y z : ℕ) → y < 65536 → z < 65536 → (x * 4294967296 + y * 65536 + z) / 4294967296 ≡ x
+top : (x y z : ℕ) → y < fieldLimit → z < fieldLimit → (x * (fieldLimit * fieldLimit) + y * fieldLimit + z) / (fieldLimit * fieldLimit) ≡ x
 top x y z v w = omega arith
 
-middle : (x y z : ℕ) → y < 65536 → z < 65536 → (x * 4294967296 + y * 65536 + z) / 65536 % 65536 ≡ y
+middle : (x y z : ℕ) → y < fieldLimit → z < fieldLimit → (x * (fieldLimit * fieldLimit) + y * fieldLimit + z) / fieldLimit % fieldLimit ≡ y
 middle x y z v w = omega arith
 
-bottom : (x y z : ℕ) → z < 65536 → (x * 4294967296 + y * 65536 + z) % 65536 ≡ z
+bottom : (x y z : ℕ) → z < fieldLimit → (x * (fieldLimit * fieldLimit) + y * fieldLimit + z) % fieldLimit ≡ z
 bottom x y z w = omega arith
 
 pub length-belts : (h : List ℕ) → length (beltsOn h) ≡ steps h
 length-belts h = omega (arith, length-map (places h) (λ (i : ℕ). field h i 2), length-run 1 ((steps h + 1) - 1))
 
-pub few-belts : (h : List ℕ) → InForm h → length (beltsOn h) ≤ 255
+pub few-belts : (h : List ℕ) → InForm h → length (beltsOn h) ≤ maxSteps
 few-belts h f = omega (arith, length-belts h, f .most)
 
 module _ (h : List ℕ) (bytes : Bytes h) where
   -- n fields of record i, from field f on
-  cut-fields : (i f n : ℕ) → 12 * i + 2 * (f + n) ≤ length h
-      → drop (12 * i + 2 * f) h ≡ joined fieldBytes (map (field h i) (run f n)) ++ drop (12 * i + 2 * (f + n)) h
+  cut-fields : (i f n : ℕ) → recordBytes * i + 2 * (f + n) ≤ length h
+      → drop (recordBytes * i + 2 * f) h ≡ joined fieldBytes (map (field h i) (run f n)) ++ drop (recordBytes * i + 2 * (f + n)) h
   cut-fields i f zero l =
-      let q : 12 * i + 2 * f ≡ 12 * i + 2 * (f + zero) = omega arith in
+      let q : recordBytes * i + 2 * f ≡ recordBytes * i + 2 * (f + zero) = omega arith in
       ap (λ (j : ℕ). drop j h) q
   cut-fields i f (suc n) l =
-      let j : ℕ = 12 * i + 2 * f in
+      let j : ℕ = recordBytes * i + 2 * f in
       let x : ℕ = getD h j 0 in
       let y : ℕ = getD h (j + 1) 0 in
       let s : suc j ≡ j + 1 = omega arith in
-      let t : suc (j + 1) ≡ 12 * i + 2 * suc f = omega arith in
-      let u : 12 * i + 2 * (suc f + n) ≡ 12 * i + 2 * (f + suc n) = omega arith in
+      let t : suc (j + 1) ≡ recordBytes * i + 2 * suc f = omega arith in
+      let u : recordBytes * i + 2 * (suc f + n) ≡ recordBytes * i + 2 * (f + suc n) = omega arith in
       let one : drop j h ≡ x ∷ drop (suc j) h = drop-cons h j 0 (omega arith) in
       let two : drop (j + 1) h ≡ y ∷ drop (suc (j + 1)) h = drop-cons h (j + 1) 0 (omega arith) in
       let rest = cut-fields i (suc f) n (omega arith) in
@@ -288,19 +289,19 @@ module _ (h : List ℕ) (bytes : Bytes h) where
       ∙ (λ k. sym (high x y (bytes (j + 1))) k ∷ sym (low x y (bytes (j + 1))) k ∷ all k)
 
   -- record i
-  cut : (i : ℕ) → 12 * i + 12 ≤ length h
-      → drop (12 * i) h ≡ recordOf (field h i 0) (field h i 1) (field h i 2) (field h i 3) (field h i 4) (field h i 5) ++ drop (12 * suc i) h
+  cut : (i : ℕ) → recordBytes * i + recordBytes ≤ length h
+      → drop (recordBytes * i) h ≡ recordOf (field h i 0) (field h i 1) (field h i 2) (field h i 3) (field h i 4) (field h i 5) ++ drop (recordBytes * suc i) h
   cut i l =
-      let p : 12 * i ≡ 12 * i + 2 * 0 = omega arith in
-      let q : 12 * i + 2 * (0 + 6) ≡ 12 * suc i = omega arith in
+      let p : recordBytes * i ≡ recordBytes * i + 2 * 0 = omega arith in
+      let q : recordBytes * i + 2 * (0 + 6) ≡ recordBytes * suc i = omega arith in
       let fields : List ℕ = recordOf (field h i 0) (field h i 1) (field h i 2) (field h i 3) (field h i 4) (field h i 5) in
       ap (λ (j : ℕ). drop j h) p ∙ cut-fields i 0 6 l ∙ ap (λ (j : ℕ). fields ++ drop j h) q
 
   -- the last m records, where they are steps
-  cut-steps : (n m i : ℕ) → length h ≡ 12 * (i + m)
+  cut-steps : (n m i : ℕ) → length h ≡ recordBytes * (i + m)
       → ((k : ℕ) → i ≤ k → k < i + m → IsStep h k (nextOf n k) (field h k 2))
-      → drop (12 * i) h ≡ stepsFrom n i (map (λ (k : ℕ). field h k 2) (run i m))
-  cut-steps n zero i l s = let past : length h ≤ 12 * i = omega arith in drop-of-length-le h past
+      → drop (recordBytes * i) h ≡ stepsFrom n i (map (λ (k : ℕ). field h k 2) (run i m))
+  cut-steps n zero i l s = let past : length h ≤ recordBytes * i = omega arith in drop-of-length-le h past
   cut-steps n (suc m) i l s =
       let k = s i (omega arith) (omega arith) in
       let rest = cut-steps n m (suc i) (omega arith) (λ k a u. s k (omega arith) (omega arith)) in
@@ -334,7 +335,7 @@ module _ (h : List ℕ) (bytes : Bytes h) where
     setting-fits = field-low h bytes 0 5;
   }
     where
-      index-low : (e : ℕ) → List·Memᴰ e (beltsOn h) → e < 65536
+      index-low : (e : ℕ) → List·Memᴰ e (beltsOn h) → e < fieldLimit
       index-low e m = let (i, k, q) = map-in (λ (i : ℕ). field h i 2) (places h) m in omega (arith, field-low h bytes i 2, q)
 
 pub reading-claim : ReadingClaim

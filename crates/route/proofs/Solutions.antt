@@ -18,6 +18,7 @@ use native.Mathlib.Omega.{arith}
 use lib.ListN.{length, length-map}
 use lib.Dec.{eqb, ltb}
 use borrow.Author.Tests.{eqb-true, eq-eqb, ltb-true, lt-ltb, not-false}
+use Rattle.plan.specs.Bounds.{fieldLimit, maxSteps}
 use Rattle.plan.specs.Lists.{all, mem}
 use Rattle.plan.specs.Plan.{Belt, Plan, planOf, namesOf}
 use Rattle.plan.specs.Claims.{Unbroken}
@@ -189,16 +190,16 @@ check-claim k bytes =
 
 module _ {b : List ℕ} (good : Accepted b) (plan-bytes : Bytes b) (s t : ℕ) (s-low : 1 ≤ s) (t-high : t ≤ planOf b .junctions)
     (way : List Belt) (is-route : IsRoute (planOf b) s t way) (σ : ℕ) (low : σ < 2 ^ planOf b .modes) where
-  few : length way ≤ 255
+  few : length way ≤ maxSteps
   few = route-few good s t way s-low t-high is-route
 
-  small : (e : ℕ) → List·Memᴰ e (namesOf way) → e < 65536
+  small : (e : ℕ) → List·Memᴰ e (namesOf way) → e < fieldLimit
   small e m =
       let (f, i, q) = map-in (λ (f : Belt). f .name) way m in
       let is = belt-of good f (route-belts (planOf b) s t way is-route f i) .0 in
       omega (arith, belt-low good (f .name) is .2)
 
-  tiny : σ < 65536
+  tiny : σ < fieldLimit
   tiny = omega (arith, low, all-modes (planOf b .modes) (plan-sizes good .2))
 
   pub reads-written : Reads (sheetOf (namesOf way) (cost way) σ) (namesOf way) (cost way) σ

@@ -18,6 +18,7 @@ use native.Mathlib.Omega.{arith}
 use native.Mathlib.Numerals.{add-one}
 use lib.ListN.{length, getD, take, drop}
 use lib.Seq.{take-nil, drop-nil}
+use Rattle.plan.specs.Bounds.{junctionPlaces, maxRecords}
 use Rattle.plan.specs.Plan.{Belt, planOf, leaving, named, placeOf, placeIn}
 use Rattle.plan.specs.Adjacency.{arcOf, arcCost, arcHead, arcName, inOrder}
 use Rattle.plan.specs.Reading.{Accepted, Bytes}
@@ -37,7 +38,7 @@ pub record Arc (b : List ℕ) (a : ℕ) (e : Belt) : Type 0 where
 
 module _ {b : List ℕ} (ok : Accepted b) {a : ℕ} {e : Belt} (arc : Arc b a e) where
   -- where it leads, and its name, are low
-  pub arc-low : (arcHead a < 257) × (arcName a < 2048)
+  pub arc-low : (arcHead a < junctionPlaces) × (arcName a < maxRecords)
   arc-low =
       let top = belt-ends ok e (arc .belt) .2 in
       let few = plan-sizes ok .1 in
@@ -56,7 +57,7 @@ module _ {b : List ℕ} (ok : Accepted b) {a : ℕ} {e : Belt} (arc : Arc b a e)
 
 pub record Span (b arcs : List ℕ) (i n : ℕ) (es : List Belt) : Type 0 where
   reach : i + length es ≡ n
-  pub few : n < 2048
+  pub few : n < maxRecords
   pub fits : n ≤ length arcs
   belts : (e : Belt) → List·Memᴰ e es → List·Memᴰ e (planOf b .belts)
   stand : take (length es) (drop i arcs) ≡ map arcOf es
@@ -86,7 +87,7 @@ module _ {b : List ℕ} (ok : Accepted b) where
   end-at : {places ends arcs : List ℕ} → Lent b places ends arcs → (u : ℕ) → u ≤ planOf b .junctions → getD ends u 0 ≡ length (inOrder (planOf b) u)
   end-at lent u l = ap (λ (ends : List ℕ). getD ends u 0) (lent .ended) ∙ ends-at ok u l
 
-  pub end-low : {places ends arcs : List ℕ} → Lent b places ends arcs → (u : ℕ) → u ≤ planOf b .junctions → getD ends u 0 < 2048
+  pub end-low : {places ends arcs : List ℕ} → Lent b places ends arcs → (u : ℕ) → u ≤ planOf b .junctions → getD ends u 0 < maxRecords
   end-low lent u l = omega (arith, end-at lent u l, order-few ok u)
 
   pub left-start : {places ends arcs : List ℕ} → Lent b places ends arcs → (u : ℕ) → 1 ≤ u → u ≤ planOf b .junctions

@@ -15,6 +15,7 @@ use native.Mathlib.Nat.{add-suc, suc-add, add-zero}
 use lib.ListN.{length, getD, drop}
 use lib.Seq.{sets-eq}
 use Rattle.plan.specs.declared.read.BeltId.{BeltId}
+use Rattle.plan.specs.Bounds.{fieldLimit}
 use Rattle.plan.specs.Records.{recordOf, placed}
 use Rattle.plan.proofs.Writing.{length-placed, behind}
 use Rattle.route.specs.Sheets.{nextOf, headOf, stepsFrom, sheetOf}
@@ -64,8 +65,8 @@ module _ (l : List ℕ) (n k : ℕ) (belts : List BeltId) (mid : List ℕ) (p : 
 -- ---- sheets
 
 pub headed : (l out : List ℕ) (n next c σ : ℕ) → next ≡ nextOf n 0
-    → out ≡ placed l 0 (recordOf 8 next (c / 4294967296) (c / 65536 % 65536) (c % 65536) σ) → out ≡ placed l 0 (headOf n c σ)
-headed l out n next c σ e q = q ∙ ap (λ (x : ℕ). placed l 0 (recordOf 8 x (c / 4294967296) (c / 65536 % 65536) (c % 65536) σ)) e
+    → out ≡ placed l 0 (recordOf 8 next (c / (fieldLimit * fieldLimit)) (c / fieldLimit % fieldLimit) (c % fieldLimit) σ) → out ≡ placed l 0 (headOf n c σ)
+headed l out n next c σ e q = q ∙ ap (λ (x : ℕ). placed l 0 (recordOf 8 x (c / (fieldLimit * fieldLimit)) (c / fieldLimit % fieldLimit) (c % fieldLimit) σ)) e
 
 pub written : (l es mid out : List ℕ) (n c σ : ℕ) → length es ≡ n → 12 * n + 12 ≤ length l
     → mid ≡ placed l 0 (headOf n c σ) → out ≡ placed mid 12 (stepsFrom n 1 es)

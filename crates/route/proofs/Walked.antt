@@ -19,6 +19,7 @@ use native.Mathlib.Numerals.{add-one}
 use lib.ListN.{length, getD, set}
 use lib.Seq.{sets}
 use Rattle.plan.specs.declared.read.BeltId.{BeltId}
+use Rattle.plan.specs.Bounds.{maxSteps}
 use Rattle.plan.specs.Plan.{Belt, planOf, beltAt, namesOf, beltId, placeIn}
 use Rattle.plan.specs.Reading.{Accepted, IsBelt}
 use Rattle.plan.proofs.Reading.{belt-of, belt-ends}
@@ -44,7 +45,7 @@ pub record Walked (b : List ℕ) (f : Fixings) (s t : ℕ) (start : List ℕ) (a
   rest : List Belt
   way : wayIn b f t s ≡ some whole
   on : wayIn b f t at ≡ some rest
-  few : length whole ≤ 255
+  few : length whole ≤ maxSteps
   reached : s ≤ at
   counts : count + length rest ≡ length whole
   stores : sets kept count (namesOf rest) ≡ sets start 0 (namesOf whole)
@@ -52,7 +53,7 @@ pub record Walked (b : List ℕ) (f : Fixings) (s t : ℕ) (start : List ℕ) (a
 
 pub record Step (b : List ℕ) (f : Fixings) (s t : ℕ) (start : List ℕ) (at count : ℕ) (kept : List ℕ) (m : ℕ) (x : BeltId) : Type 0 where
   pub belt : IsBelt b (x .0)
-  pub room : count < 255
+  pub room : count < maxSteps
   pub higher : at < beltAt b (x .0) .leads
   pub inside : beltAt b (x .0) .leads ≤ t
   pub walked : Walked b f s t start (beltAt b (x .0) .leads) (count + 1) (set kept count (x .0)) (withPlace m (placeIn (namedPlaces b) (x .0)))
@@ -61,7 +62,7 @@ module _ {b : List ℕ} (ok : Accepted b) {f : Fixings} {s t : ℕ} {start : Lis
   pub walked-start : {c : ℕ} → 1 ≤ s → t ≤ planOf b .junctions → c ≡ wayCost (wayIn b f t s) → (c ≡ costLimit → ⊥) → Walked b f s t start s 0 start 0
   walked-start low inside costBy h =
       let (r, q) = way-found (wayIn b f t s) costBy h in
-      let few : length r ≤ 255 = route-few ok s t r low inside (way-route ok (subproblemIn b f) t s r q) in
+      let few : length r ≤ maxSteps = route-few ok s t r low inside (way-route ok (subproblemIn b f) t s r q) in
       record {
         whole = r;
         rest = r;

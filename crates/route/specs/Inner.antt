@@ -1,7 +1,7 @@
 -- What only the contracts of private functions cite; nothing that a reader has to believe.
 --
 --   Codable places l
---                   literal l has a code: a named belt that can be looked up in the array of places, or a mode up to 10
+--                   literal l has a code: a named belt that can be looked up in the array of places, or a mode up to maxModes
 --   isTrue on c     the literal of code c holds, where the mask `on` has the variables that are on
 --   stores f l is   the array l with f i at place i, for each i of the list `is`
 --   lowerIds es fs  `lower` of routes with the names es and fs
@@ -32,8 +32,8 @@
 --   Guides b f t s firsts
 --                   from s on each way on begins with the belt that firsts has for its junction
 --   costsIn ws, firstsIn ws
---                   the costs and the first belts of the ways that an array of numbers has: 2,048 times the cost, and the belt
---   Spared s t ws   an array of 257 that is 0 but for the places from s on and before t
+--                   the costs and the first belts of the ways that an array of numbers has: maxRecords times the cost, and the belt
+--   Spared s t ws   an array with a place for each junction that is 0 but for the places from s on and before t
 --   joinedIn masks m us
 --                   the mask m with all places of the masks that the array has for us
 --
@@ -47,6 +47,7 @@ use lib.Bits.{bitOr}
 use lib.ListN.{length, getD, set}
 use lib.Dec.{eqb, leb, ltb}
 use Rattle.plan.specs.declared.read.BeltId.{BeltId}
+use Rattle.plan.specs.Bounds.{junctionPlaces, maxModes, maxNamed, maxRecords}
 use Rattle.plan.specs.Lists.{all, keep, mem}
 use Rattle.plan.specs.Plan.{Belt, Plan, planOf, namesOf, beltId}
 use Rattle.plan.specs.Adjacency.{arcsIn, endsOf}
@@ -71,8 +72,8 @@ lowerIds (e ∷ es) (f ∷ fs) = first e f (lowerIds es fs)
 -- ---- clauses
 
 abbrev pub Codable : List ℕ → Literal → Type 0
-Codable places (OfBelt e wanted) = (e .0 < 2048) × (1 ≤ getD places (e .0) 0) × (getD places (e .0) 0 ≤ 48)
-Codable places (OfMode m wanted) = m .0 ≤ 10
+Codable places (OfBelt e wanted) = (e .0 < maxRecords) × (1 ≤ getD places (e .0) 0) × (getD places (e .0) 0 ≤ maxNamed)
+Codable places (OfMode m wanted) = m .0 ≤ maxModes
 
 abbrev pub isTrue : ℕ → ℕ → Bool
 isTrue on c = eqb (on / 2 ^ (c / 2) % 2) (c % 2)
@@ -167,13 +168,13 @@ abbrev pub Guides : List ℕ → Fixings → ℕ → ℕ → List BeltId → Typ
 Guides b f t s firsts = (u : ℕ) → s ≤ u → Begins (planOf b) (subproblemIn b f) t u (getD firsts u (beltId 0))
 
 abbrev pub costsIn : List ℕ → List ℕ
-costsIn ws = map (λ (w : ℕ). w / 2048) ws
+costsIn ws = map (λ (w : ℕ). w / maxRecords) ws
 
 abbrev pub firstsIn : List ℕ → List BeltId
-firstsIn ws = map (λ (w : ℕ). beltId (w % 2048)) ws
+firstsIn ws = map (λ (w : ℕ). beltId (w % maxRecords)) ws
 
 pub record Spared (s t : ℕ) (ws : List ℕ) : Type 0 where
-  pub size : length ws ≡ 257
+  pub size : length ws ≡ junctionPlaces
   pub below : (j : ℕ) → j < s → getD ws j 0 ≡ 0
   pub above : (j : ℕ) → t ≤ j → getD ws j 0 ≡ 0
 

@@ -4,7 +4,7 @@
 --   BitLaw        bit k of a mask is for the k-th of the named belts
 --   MasksLaw      every subproblem of named belts has masks, with the same relaxed routes
 --   Holdable b r  the route r can be tested, written and checked: it costs less than costLimit, so a bound of costLimit - 1 does not drop it; a
---                 Route holds it, of at most 255 belts, all of the plan; and out of room that the code put its belts into the same Route is read
+--                 Route holds it, of at most maxSteps belts, all of the plan; and out of room that the code put its belts into the same Route is read
 --   AnswerLaw     every relaxed route is holdable
 --   ReadBackLaw   the code reads back whatever `sheet::write` may be given
 --
@@ -16,6 +16,7 @@ use Prim.Native.Nat.{ℕ, _-_, _/_, _%_, _^_, _≤_, _<_}
 use mathlib.Core.List.{List, List·Memᴰ}
 use lib.ListN.{length, getD}
 use lib.Dec.{eqb}
+use Rattle.plan.specs.Bounds.{maxSteps}
 use Rattle.plan.specs.Lists.{mem}
 use Rattle.plan.specs.Plan.{Belt, planOf, namesOf, named}
 use Rattle.plan.specs.Reading.{Accepted, Bytes}
@@ -42,14 +43,14 @@ pub record Holdable (b : List ℕ) (r : List Belt) : Type 0 where
   pub known : Known b (routeOf r)
   pub names : idsOf (routeOf r) ≡ namesOf r
   pub same : routeIn b (routeOf r) ≡ r
-  pub back : (room : List ℕ) → length room ≡ 255 → firstBelts (length r) (keptOf (some r) room) ≡ routeOf r
+  pub back : (room : List ℕ) → length room ≡ maxSteps → firstBelts (length r) (keptOf (some r) room) ≡ routeOf r
 
 abbrev pub AnswerLaw : Type 0
 AnswerLaw = (b : List ℕ) → Accepted b → Bytes b → (s t : ℕ) → 1 ≤ s → t ≤ planOf b .junctions → (x : Subproblem) (r : List Belt)
     → relaxed (planOf b) s t x ≡ some r → Holdable b r
 
 abbrev pub ReadBackLaw : Type 0
-ReadBackLaw = (v : Sheet) → v .route .count ≤ 255 → v .cost < costLimit
+ReadBackLaw = (v : Sheet) → v .route .count ≤ maxSteps → v .cost < costLimit
     → (inForm (bytesOf v) ≡ true) × (sheetIn (bytesOf v) ≡ record { route = packed (idsOf (v .route)); cost = v .cost; setting = v .setting })
 
 -- all of them

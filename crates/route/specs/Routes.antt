@@ -12,10 +12,11 @@
 -- That there is none for s > t and only the empty one for s = t, that `before` is a strict total order on the routes from s to t, and that
 -- `routes` lists exactly the routes, each once, are laws (Claims.antt). Assumes nothing.
 use mathlib.Core.Path.{_≡_}
-use Prim.Native.Nat.{ℕ, zero, suc, _+_, _-_}
+use Prim.Native.Nat.{ℕ, zero, suc, _+_, _*_, _-_}
 use mathlib.Core.Bool.{Bool, true, false, not, _&&_, _||_}
 use mathlib.Core.List.{List, [], _∷_, map, List·Memᴰ}
 use lib.Dec.{eqb, ltb}
+use Rattle.plan.specs.Bounds.{fieldLimit}
 use Rattle.plan.specs.Lists.{keep, joined, within}
 use Rattle.plan.specs.Plan.{Belt, Plan, leaving}
 
@@ -34,9 +35,9 @@ abbrev pub cost : List Belt → ℕ
 cost [] = 0
 cost (e ∷ r) = e .cost + cost r
 
--- 2^48: a sheet holds costs of 48 bits
+-- a sheet holds a cost in three fields
 abbrev pub costLimit : ℕ
-costLimit = 281474976710656
+costLimit = fieldLimit * (fieldLimit * fieldLimit)
 
 -- m is below n, or is n and the rest decides
 abbrev pub first : ℕ → ℕ → Bool → Bool

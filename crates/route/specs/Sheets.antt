@@ -18,6 +18,7 @@ use mathlib.Core.Bool.{Bool, true, false, _&&_}
 use mathlib.Core.List.{List, [], _∷_, _++_, map, List·Memᴰ}
 use lib.ListN.{length}
 use lib.Dec.{eqb, ltb}
+use Rattle.plan.specs.Bounds.{fieldLimit, maxSheetBytes, maxSteps, recordBytes}
 use Rattle.plan.specs.Lists.{all, upto, within}
 use Rattle.plan.specs.Records.{field, recordOf}
 use Rattle.route.specs.Routes.{costLimit}
@@ -35,24 +36,24 @@ abbrev pub stepsFrom : ℕ → ℕ → List ℕ → List ℕ
 stepsFrom n i [] = []
 stepsFrom n i (e ∷ es) = recordOf 5 (nextOf n i) e 0 0 0 ++ stepsFrom n (suc i) es
 
--- 4,294,967,296 is 2^32
+-- the cost has three fields, high first
 abbrev pub headOf : ℕ → ℕ → ℕ → List ℕ
-headOf n c σ = recordOf 8 (nextOf n 0) (c / 4294967296) (c / 65536 % 65536) (c % 65536) σ
+headOf n c σ = recordOf 8 (nextOf n 0) (c / (fieldLimit * fieldLimit)) (c / fieldLimit % fieldLimit) (c % fieldLimit) σ
 
 abbrev pub sheetOf : List ℕ → ℕ → ℕ → List ℕ
 sheetOf es c σ = headOf (length es) c σ ++ stepsFrom (length es) 1 es
 
 pub record Reads (h : List ℕ) (es : List ℕ) (c σ : ℕ) : Type 0 where
   pub written : h ≡ sheetOf es c σ
-  pub short : length es ≤ 255
-  pub indices : (e : ℕ) → List·Memᴰ e es → e < 65536
+  pub short : length es ≤ maxSteps
+  pub indices : (e : ℕ) → List·Memᴰ e es → e < fieldLimit
   pub cost-fits : c < costLimit
-  pub setting-fits : σ < 65536
+  pub setting-fits : σ < fieldLimit
 
 -- ---- reading
 
 abbrev pub steps : List ℕ → ℕ
-steps h = length h / 12 - 1
+steps h = length h / recordBytes - 1
 
 abbrev pub headFits : List ℕ → Bool
 headFits h = eqb (field h 0 0) 8 && eqb (field h 0 1) (nextOf (steps h) 0)
@@ -70,13 +71,13 @@ abbrev pub places : List ℕ → List ℕ
 places h = upto 1 (steps h + 1)
 
 unfoldable pub inForm : List ℕ → Bool
-inForm h = within 12 (length h) 3072 && eqb (length h % 12) 0 && headFits h && all (stepFits h) (places h)
+inForm h = within recordBytes (length h) maxSheetBytes && eqb (length h % recordBytes) 0 && headFits h && all (stepFits h) (places h)
 
 abbrev pub beltsOn : List ℕ → List ℕ
 beltsOn h = map (λ (i : ℕ). field h i 2) (places h)
 
 abbrev pub costOn : List ℕ → ℕ
-costOn h = field h 0 2 * 4294967296 + field h 0 3 * 65536 + field h 0 4
+costOn h = field h 0 2 * (fieldLimit * fieldLimit) + field h 0 3 * fieldLimit + field h 0 4
 
 abbrev pub settingOn : List ℕ → ℕ
 settingOn h = field h 0 5

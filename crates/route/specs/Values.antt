@@ -4,7 +4,7 @@
 --   packed es        the Route that holds the belts es, the rest of its array 0
 --   routeOf r        the Route that holds the belts of the route r
 --   firstBelts n ns  the Route of the first n belts of an array of names
---   Known b r        a Route of at most 255 belts, all of them belts of the plan b
+--   Known b r        a Route of at most maxSteps belts, all of them belts of the plan b
 --   routeIn b r      the belts of the plan b that a Route holds
 --   sheetIn h        the Sheet that the bytes h read as
 --   bytesOf v        the bytes of a Sheet
@@ -16,21 +16,21 @@
 --   OfNamed b m      the mask m has no other places than those of the named belts of the plan b
 --   subproblemIn b f the subproblem of the plan b that the masks f stand for
 --   namedPlaces b    the places of the named belts of the plan b, as the code looks them up
---   numbersOf ns     the numbers of the named belts ns, as an array of 48, the rest of it 0
+--   numbersOf ns     the numbers of the named belts ns, as an array of maxNamed, the rest of it 0
 --   gatheredIn places m es
 --                    the mask m with the places of the belts es, as the array of places has them
 --   Placeable places r
 --                    the belts of a Route can be looked up in the array of places, and have bits in a mask
 --   maskOf b es      the named belts of the plan b among es, as a mask
 --   hasBelt b m e    the mask m has belt e of the plan b
---   exitsOf b        for each number from 0 to 256 the named belts of the plan b that leave the junction of this number, as a mask
+--   exitsOf b        for each number from 0 to maxJunctions the named belts of the plan b that leave the junction of this number, as a mask
 --   atMost c o       the route o, if there is one and it costs at most c
 --   summaryAs b o    the answer that stands for the cost of a route of the plan b, how many belts it has and the named ones, or for none (noSummary)
 --   keptOf o room    the array room with the names of the belts of the route o, if there is one, from the first place on
 --   codeIn places l  the code of literal l: twice its variable, and 1 more where it is wanted (codeBy). The variable of a belt is its place among
---                    the named belts, as the array of places has it; that of mode m is 47 + m, behind the places of 48 belts
---   ruleEntry b r    the entry of rule r of the plan b: the next rule, and 65,536 times its first literal
---   literalEntry b l the entry of literal l of the plan b: the next literal of its rule, and 65,536 times its code
+--                    the named belts, as the array of places has it; that of mode m stands m behind the last place (lastPlace)
+--   ruleEntry b r    the entry of rule r of the plan b: the next rule, and fieldLimit times its first literal
+--   literalEntry b l the entry of literal l of the plan b: the next literal of its rule, and fieldLimit times its code
 --   entryOf b i      the entry of record i of the plan b: of record 0 the first rule, of a rule and of a literal the above, of any other 0 (entryBy)
 --   clausesIn n b    the entries of the plan b by record index, as an array of n
 --   Clauses b cs     the array cs has the entries of the plan b, and one for each of its records
@@ -51,6 +51,7 @@ use Rattle.plan.specs.declared.read.Literal.{Literal}
 use Rattle.plan.specs.declared.read.Literal.the-variants.{OfBelt, OfMode}
 use Rattle.plan.specs.declared.named.Place.{Place}
 use Rattle.plan.specs.declared.named.Place.the-variants.{At, Unnamed}
+use Rattle.plan.specs.Bounds.{fieldLimit, junctionPlaces, maxNamed, maxRecords, maxSteps}
 use Rattle.plan.specs.Lists.{keep, upto}
 use Rattle.plan.specs.Records.{records}
 use Rattle.plan.specs.Plan.{Belt, planOf, literalAt, namesOf, leaving, named, beltId, listed, placeOf, placesOf, placeIn}
@@ -71,7 +72,7 @@ abbrev pub idsOf : Route → List ℕ
 idsOf r = map (λ (e : BeltId). e .0) (take (r .count) (r .belts))
 
 abbrev pub packed : List ℕ → Route
-packed es = record { count = length es; belts = map beltId es ++ replicate (255 - length es) (beltId 0) }
+packed es = record { count = length es; belts = map beltId es ++ replicate (maxSteps - length es) (beltId 0) }
 
 abbrev pub routeOf : List Belt → Route
 routeOf r = packed (namesOf r)
@@ -80,7 +81,7 @@ abbrev pub firstBelts : ℕ → List ℕ → Route
 firstBelts n ns = packed (take n ns)
 
 pub record Known (b : List ℕ) (r : Route) : Type 0 where
-  pub few : r .count ≤ 255
+  pub few : r .count ≤ maxSteps
   pub belts : (e : ℕ) → List·Memᴰ e (idsOf r) → IsBelt b e
 
 abbrev pub routeIn : List ℕ → Route → List Belt
@@ -130,8 +131,8 @@ gatheredIn places m [] = m
 gatheredIn places m (e ∷ es) = gatheredIn places (withPlace m (placeIn places e)) es
 
 pub record Placeable (places : List ℕ) (r : Route) : Type 0 where
-  pub few : r .count ≤ 255
-  pub low : (e : ℕ) → List·Memᴰ e (idsOf r) → (e < 2048) × LowPlace (placeIn places e)
+  pub few : r .count ≤ maxSteps
+  pub low : (e : ℕ) → List·Memᴰ e (idsOf r) → (e < maxRecords) × LowPlace (placeIn places e)
 
 abbrev pub maskOf : List ℕ → List ℕ → ℕ
 maskOf b es = gatheredIn (namedPlaces b) 0 es
@@ -140,7 +141,7 @@ abbrev pub hasBelt : List ℕ → ℕ → ℕ → Bool
 hasBelt b m e = inMask m (placeOf (named (planOf b)) e)
 
 unfoldable pub exitsOf : List ℕ → List ℕ
-exitsOf b = map (λ (u : ℕ). maskOf b (namesOf (leaving (planOf b) u))) (upto 0 257)
+exitsOf b = map (λ (u : ℕ). maskOf b (namesOf (leaving (planOf b) u))) (upto 0 junctionPlaces)
 
 abbrev pub atMost : ℕ → Option (List Belt) → Option (List Belt)
 atMost c none = none
@@ -163,15 +164,19 @@ abbrev pub codeBy : ℕ → Bool → ℕ
 codeBy variable true = 2 * variable + 1
 codeBy variable false = 2 * variable
 
+-- the highest place that a named belt can have
+abbrev pub lastPlace : ℕ
+lastPlace = maxNamed - 1
+
 abbrev pub codeIn : List ℕ → Literal → ℕ
 codeIn places (OfBelt e wanted) = codeBy (getD places (e .0) 0 - 1) wanted
-codeIn places (OfMode m wanted) = codeBy (47 + m .0) wanted
+codeIn places (OfMode m wanted) = codeBy (lastPlace + m .0) wanted
 
 abbrev pub ruleEntry : List ℕ → ℕ → ℕ
-ruleEntry b r = nextRule b r + 65536 * firstLiteral b r
+ruleEntry b r = nextRule b r + fieldLimit * firstLiteral b r
 
 abbrev pub literalEntry : List ℕ → ℕ → ℕ
-literalEntry b l = nextLiteral b l + 65536 * codeIn (namedPlaces b) (literalAt b l)
+literalEntry b l = nextLiteral b l + fieldLimit * codeIn (namedPlaces b) (literalAt b l)
 
 -- by whether the record is a rule, and whether it is a literal
 abbrev pub entryBy : Bool → Bool → ℕ → ℕ → ℕ

@@ -1,7 +1,9 @@
 // The chains of a plan's rules and literals as numbers, decoded once. By record index: entry 0 is the first rule; the entry of a rule is the next
-// rule, and 65,536 times its first literal; the entry of a literal is the next literal of its rule, and 65,536 times its code; the rest is 0.
-// A code is twice the literal's variable, and 1 more where it is wanted. The variable of a named belt is its place among the named belts, of which
-// there are at most 48, and that of mode m is 47 + m.
+// rule, and FIELD times its first literal; the entry of a literal is the next literal of its rule, and FIELD times its code; the rest is 0.
+// A code is twice the literal's variable, and 1 more where it is wanted. The variable of a named belt is its place among the named belts; that of
+// mode m stands m behind LAST_PLACE.
+use plan::bounds::FIELD_LIMIT;
+use plan::bounds::MAX_NAMED;
 use plan::bounds::MAX_RECORDS;
 use plan::read;
 use plan::read::Literal;
@@ -13,6 +15,12 @@ ghost use lib.ListN.{length, replicate};
 ghost use Rattle.plan.specs.Reading.{Accepted, IsRule, firstLiteral, literalChain};
 ghost use Rattle.route.specs.Values.{namedPlaces, codeBy, codeIn, entryOf, clausesIn};
 ghost use Rattle.route.specs.Inner.{Codable, stores};
+
+// Record indices are below it.
+pub const FIELD: u32 = FIELD_LIMIT as u32;
+
+// The highest place that a named belt can have.
+const LAST_PLACE: u32 = MAX_NAMED as u32 - 1;
 
 // The code of a variable, wanted or not.
 fn code(variable: u32, wanted: bool) -> u32
@@ -32,7 +40,7 @@ fn code_of(places: &[u8; MAX_RECORDS], literal: Literal) -> u32
 {
     match literal {
         Literal::OfBelt(belt, wanted) => code(places[belt.0 as usize] as u32 - 1, wanted),
-        Literal::OfMode(mode, wanted) => code(47 + mode.0 as u32, wanted),
+        Literal::OfMode(mode, wanted) => code(LAST_PLACE + mode.0 as u32, wanted),
     }
 }
 
@@ -45,7 +53,7 @@ fn put_literals(p: &[u8], places: &[u8; MAX_RECORDS], clauses: &mut [u32], rule:
     while literal.0 != 0 {
         let code = code_of(places, read::literal_of(p, literal));
         let next = read::next_literal(p, literal);
-        clauses[literal.0 as usize] = next.0 as u32 + 65536 * code;
+        clauses[literal.0 as usize] = next.0 as u32 + FIELD * code;
         literal = next;
     }
 }
@@ -61,7 +69,7 @@ pub fn decode(p: &[u8], places: &[u8; MAX_RECORDS], clauses: &mut [u32])
     while rule.0 != 0 {
         let literal = read::first_literal(p, rule);
         let next = read::next_rule(p, rule);
-        clauses[rule.0 as usize] = next.0 as u32 + 65536 * (literal.0 as u32);
+        clauses[rule.0 as usize] = next.0 as u32 + FIELD * (literal.0 as u32);
         put_literals(p, places, clauses, rule);
         rule = next;
     }

@@ -4,6 +4,7 @@ use plan::read;
 use plan::read::ModeId;
 ghost use mathlib.Core.Path.{_≡_};
 ghost use Prim.Native.Nat.{_+_, _^_, _≤_};
+ghost use Rattle.plan.specs.Bounds.{maxModes};
 ghost use Rattle.plan.specs.Lists.{run};
 ghost use Rattle.plan.specs.Plan.{planOf};
 ghost use Rattle.plan.specs.Reading.{Accepted};
@@ -19,7 +20,7 @@ pub enum Lowest {
 // Settles the modes from this one down to 1, the higher ones being as `setting` has them: the lowest setting that works, where the named belts of
 // the mask `belts` are on the route. ModeId(0) says that no mode is left.
 fn settle(p: &[u8], clauses: &[u32], belts: u64, mode: ModeId, setting: u16) -> Lowest
-    requires { ⌜ Accepted (now p) × Clauses (now p) (now clauses) × OfNamed (now p) belts × (mode .0 ≤ 10) × (setting + 2 ^ mode .0 ≤ 1024) ⌝ }
+    requires { ⌜ Accepted (now p) × Clauses (now p) (now clauses) × OfNamed (now p) belts × (mode .0 ≤ maxModes) × (setting + 2 ^ mode .0 ≤ 2 ^ maxModes) ⌝ }
     ensures { λ v. ⌜ settingIn v ≡ find (allMet (planOf (now (p .entry)) .rules) (hasBelt (now (p .entry)) belts)) (run setting (2 ^ mode .0)) ⌝ }
 {
     if mode.0 == 0 {
@@ -35,7 +36,7 @@ fn settle(p: &[u8], clauses: &[u32], belts: u64, mode: ModeId, setting: u16) -> 
 
 // Tries both positions of a mode, off before on.
 fn try_both(p: &[u8], clauses: &[u32], belts: u64, mode: ModeId, setting: u16) -> Lowest
-    requires { ⌜ Accepted (now p) × Clauses (now p) (now clauses) × OfNamed (now p) belts × (1 ≤ mode .0) × (mode .0 ≤ 10) × (setting + 2 ^ mode .0 ≤ 1024) ⌝ }
+    requires { ⌜ Accepted (now p) × Clauses (now p) (now clauses) × OfNamed (now p) belts × (1 ≤ mode .0) × (mode .0 ≤ maxModes) × (setting + 2 ^ mode .0 ≤ 2 ^ maxModes) ⌝ }
     ensures { λ v. ⌜ settingIn v ≡ find (allMet (planOf (now (p .entry)) .rules) (hasBelt (now (p .entry)) belts)) (run setting (2 ^ mode .0)) ⌝ }
 {
     let lower = mode.0 - 1;

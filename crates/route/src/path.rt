@@ -1,5 +1,6 @@
 // Routes: what is asked of one, and its belts: whether they are the plan's, whether they connect, what they cost,
 // and which of two comes before the other.
+use plan::bounds::FIELD_LIMIT;
 use plan::bounds::MAX_STEPS;
 use plan::read;
 use plan::read::BeltId;
@@ -14,6 +15,9 @@ ghost use Rattle.plan.specs.Reading.{Accepted};
 ghost use Rattle.route.specs.Routes.{wrongEnds, connects, cost, costLimit, before};
 ghost use Rattle.route.specs.Values.{idsOf, Known, routeIn, firstBelts};
 ghost use Rattle.route.specs.Inner.{lowerIds};
+
+// Every route costs less. A sheet holds a cost in three fields.
+pub const COST_LIMIT: u64 = (FIELD_LIMIT * FIELD_LIMIT * FIELD_LIMIT) as u64;
 
 // What a route is asked or checked for: it leads from junction s to junction t.
 pub struct Trip {

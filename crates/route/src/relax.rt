@@ -13,6 +13,7 @@
 // What a search has of each subproblem is the cost of the route, if it is within a bound, and its named belts. The belts stay in room that the caller
 // lends: they are asked for only where the route becomes the best, or has to be compared with it belt by belt (path::of_belts).
 use crate::masks;
+use crate::path::COST_LIMIT;
 use crate::path::Trip;
 use plan::adjacency;
 use plan::bounds::JUNCTION_PLACES;
@@ -55,10 +56,10 @@ pub struct Summary {
 }
 
 // The cost of a way that is not there: no route costs as much.
-const NO_WAY: u64 = 281474976710656;
+const NO_WAY: u64 = COST_LIMIT;
 
 // A bound that every route keeps to.
-pub const UNBOUNDED: u64 = 281474976710655;
+pub const UNBOUNDED: u64 = COST_LIMIT - 1;
 
 // The cheapest way on from a junction: its cost, its first belt, and whether a required belt leaves the junction.
 struct Way {

@@ -1,8 +1,10 @@
 // The rule test: whether every rule of a plan is met by a route under a setting of the modes. It goes by the clauses of the plan
 // (clauses::decode) and by the mask of the named belts on the route (masks::on_route), which are made once for all settings.
 use crate::clauses;
+use crate::clauses::FIELD;
 use crate::masks;
 use crate::path::Route;
+use plan::bounds::MAX_NAMED;
 use plan::bounds::MAX_RECORDS;
 use plan::named;
 ghost use mathlib.Core.Path.{_≡_};
@@ -13,8 +15,8 @@ ghost use Rattle.route.specs.Permission.{passes, allMet};
 ghost use Rattle.route.specs.Values.{Known, routeIn, OfNamed, hasBelt, Clauses};
 ghost use Rattle.route.specs.Inner.{isTrue};
 
-// What mode 1 counts in a mask of variables: 2^48. The modes stand behind the places of 48 belts, in the order in which a setting has them.
-const MODE_1: u64 = 281474976710656;
+// What mode 1 counts in a mask of variables. The modes stand behind the places of the named belts, in the order in which a setting has them.
+const MODE_1: u64 = 1u64 << MAX_NAMED;
 
 // Whether the literal of a code holds, under a mask of the variables that are on.
 fn is_true(on: u64, code: u32) -> bool
@@ -33,14 +35,14 @@ pub fn all_met(p: &[u8], clauses: &[u32], belts: u64, setting: u16) -> bool
     let mut next = clauses[0];
     'rules: while next != 0 {
         let rule = clauses[next as usize];
-        next = rule % 65536;
-        let mut literal = rule / 65536;
+        next = rule % FIELD;
+        let mut literal = rule / FIELD;
         while literal != 0 {
             let entry = clauses[literal as usize];
-            if is_true(on, entry / 65536) {
+            if is_true(on, entry / FIELD) {
                 continue 'rules;
             }
-            literal = entry % 65536;
+            literal = entry % FIELD;
         }
         return false;
     }

@@ -1,5 +1,6 @@
 // Route sheets: records in the form of a plan's. Record 0 holds the cost and the setting, each further one a belt of the route.
 use crate::path::Route;
+use plan::bounds::FIELD_LIMIT;
 use plan::bounds::MAX_SHEET_BYTES;
 use plan::bounds::MAX_STEPS;
 use plan::bounds::RECORD_BYTES;
@@ -10,7 +11,7 @@ ghost use mathlib.Core.Bool.{true};
 ghost use mathlib.Core.List.{_++_};
 ghost use Prim.Native.Nat.{_+_, _*_, _≤_, _<_};
 ghost use lib.ListN.{length, drop};
-ghost use Rattle.plan.specs.Bounds.{maxSteps, recordBytes};
+ghost use Rattle.plan.specs.Bounds.{maxSteps, recordBytes, fieldLimit};
 ghost use Rattle.plan.specs.Records.{placed};
 ghost use Rattle.route.specs.Routes.{costLimit};
 ghost use Rattle.route.specs.Sheets.{nextOf, headOf, stepsFrom, steps, headFits, stepFits, inForm, beltsOn, costOn};
@@ -20,6 +21,11 @@ ghost use Rattle.route.specs.Values.{idsOf, packed, sheetIn, bytesOf};
 pub const SHEET: u16 = 8;
 
 pub const STEP: u16 = 5;
+
+// What 1 in the middle and in the high field of a cost counts.
+const MIDDLE: u64 = FIELD_LIMIT as u64;
+
+const HIGH: u64 = MIDDLE * MIDDLE;
 
 // What a sheet says.
 pub struct Sheet {
@@ -119,12 +125,12 @@ fn read_route(h: &[u8]) -> Route
 
 // A function of its own, so that the bound is known where the fields are put together.
 fn wide(x: u16) -> u64
-    ensures { λ v. ⌜ (v ≡ x) × (v < 65536) ⌝ }
+    ensures { λ v. ⌜ (v ≡ x) × (v < fieldLimit) ⌝ }
 {
     x as u64
 }
 
-// The cost, 48 bits in fields 2 to 4, high first.
+// The cost, in fields 2 to 4, high first.
 fn read_cost(h: &[u8]) -> u64
     requires { ⌜ recordBytes ≤ length (now h) ⌝ }
     ensures { λ v. ⌜ v ≡ costOn (now (h .entry)) ⌝ }
@@ -132,7 +138,7 @@ fn read_cost(h: &[u8]) -> u64
     let high = wide(record::field(h, 0, 2));
     let middle = wide(record::field(h, 0, 3));
     let low = wide(record::field(h, 0, 4));
-    high * 4294967296 + middle * 65536 + low
+    high * HIGH + middle * MIDDLE + low
 }
 
 // What a sheet in the form says.
@@ -157,9 +163,9 @@ fn put_head(out: &mut [u8], count: usize, cost: u64, setting: u16)
         × (recordBytes ≤ length (now out)) ⌝ }
     ensures { λ _. ⌜ now (out .exit) ≡ placed (now (out .entry)) 0 (headOf count cost setting) ⌝ }
 {
-    let high = (cost / 4294967296) as u16;
-    let middle = (cost / 65536 % 65536) as u16;
-    let low = (cost % 65536) as u16;
+    let high = (cost / HIGH) as u16;
+    let middle = (cost / MIDDLE % MIDDLE) as u16;
+    let low = (cost % MIDDLE) as u16;
     record::put_record(out, 0, SHEET, next_of(count, 0), high, middle, low, setting);
 }
 
@@ -167,7 +173,7 @@ fn put_head(out: &mut [u8], count: usize, cost: u64, setting: u16)
 fn put_steps(out: &mut [u8], route: Route)
     requires { ⌜ (route .count ≤ maxSteps)
         × (recordBytes * route .count + recordBytes ≤ length (now out)) ⌝ }
-    ensures { λ _. ⌜ now (out .exit) ≡ placed (now (out .entry)) 12 (stepsFrom (route .count) 1 (idsOf route)) ⌝ }
+    ensures { λ _. ⌜ now (out .exit) ≡ placed (now (out .entry)) recordBytes (stepsFrom (route .count) 1 (idsOf route)) ⌝ }
 {
     let belts = route.belts;
     let count = route.count;

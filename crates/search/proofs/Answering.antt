@@ -28,6 +28,7 @@ use lib.ListN.{length, take, drop, length-map}
 use lib.Seq.{take-append-seam, drop-append-seam}
 use lib.Dec.{ltb}
 use borrow.Author.Tests.{ltb-true, ltb-false}
+use Rattle.plan.specs.Bounds.{maxSheetBytes}
 use Rattle.plan.proofs.Lists.{test, never}
 use Rattle.plan.specs.Plan.{Belt, planOf, namesOf}
 use Rattle.plan.specs.Reading.{Accepted, Bytes}
@@ -277,7 +278,7 @@ module _ (k : Request) (bytes : Bytes (k .plan)) (out : List ℕ) (es : List ℕ
   abbrev after : List ℕ
   after = outAfter (outcome k) out
 
-  short : length sheet ≤ 3072
+  short : length sheet ≤ maxSheetBytes
   short =
       let r = best .belts in
       let few = route-few (accepted k unrefused) (k .query .trip .s) (k .query .trip .t) r (within .s-from) (within .t-to) (best .permitted .0) in
@@ -309,7 +310,7 @@ module _ (k : Request) (bytes : Bytes (k .plan)) (out : List ℕ) (es : List ℕ
 
 pub accepted-claim : AcceptedClaim
 accepted-claim k bytes out size es c σ n h =
-    let room : 3072 ≤ k .room = within k bytes out es c σ n h .room in (
+    let room : maxSheetBytes ≤ k .room = within k bytes out es c σ n h .room in (
       omega (arith, short k bytes out es c σ n h),
       front k bytes out es c σ n h,
       behind k bytes out es c σ n h,

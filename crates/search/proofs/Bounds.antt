@@ -22,6 +22,7 @@ use native.Mathlib.Omega.{arith}
 use lib.ListN.{length, length-map}
 use lib.Dec.{eqb, leb}
 use borrow.Author.Tests.{leb-true, leb-false, le-leb, lt-leb, lt-ltb, le-ltb}
+use Rattle.plan.specs.Bounds.{maxSteps}
 use Rattle.plan.specs.Plan.{Belt, planOf}
 use Rattle.plan.specs.Reading.{Accepted, Bytes}
 use Rattle.plan.proofs.Lists.{test}
@@ -147,10 +148,10 @@ module _ {b : List ℕ} (ok : Accepted b) (bytes : Bytes b) (q : Trip) (ends : w
       sum-tells b (relaxedIn b q f) t best k v bound (λ r i. claim r i .cheap) (summed b k (relaxedIn b q f) v low e)
 
   module _ {k : ℕ} {v : Summary} (h : Held b k (relaxedIn b q f) v) where
-    pub held-few : v .count ≤ 255
+    pub held-few : v .count ≤ maxSteps
     held-few = omega (arith, ap (λ (w : Summary). w .count) (h .summary), claim (h .route) (h .is) .known .few, length-map (h .route) (λ (e : Belt). e .name))
 
-    pub held-back : (room : List ℕ) → length room ≡ 255 → firstBelts (v .count) (keptOf (atMost k (relaxedIn b q f)) room) ≡ heldAs (relaxedIn b q f)
+    pub held-back : (room : List ℕ) → length room ≡ maxSteps → firstBelts (v .count) (keptOf (atMost k (relaxedIn b q f)) room) ≡ heldAs (relaxedIn b q f)
     held-back room size =
         (λ i. firstBelts (h .summary i .count) (keptOf (h .within i) room)) ∙ claim (h .route) (h .is) .back room size ∙ sym (ap heldAs (h .is))
 

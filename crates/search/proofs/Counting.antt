@@ -34,6 +34,7 @@ use Rattle.plan.specs.declared.read.ModeId.{ModeId}
 use Rattle.plan.specs.declared.read.Literal.{Literal}
 use Rattle.plan.specs.declared.read.Literal.the-variants.{OfBelt, OfMode}
 use Rattle.plan.specs.declared.named.Place.the-variants.{At}
+use Rattle.plan.specs.Bounds.{maxNamed, maxRecords}
 use Rattle.plan.specs.Lists.{counted, count, mem, run}
 use Rattle.plan.specs.Plan.{planOf, literalAt, ruleAt, named, inRule, placeOf, placesOf, placeIn}
 use Rattle.plan.specs.Reading.{Accepted, IsRule, IsLiteral, firstRule, nextRule, firstLiteral, nextLiteral, rulesFrom, literalsFrom}
@@ -60,7 +61,7 @@ module _ {ns : List ℕ} (rises : Rises ns) (k : ℕ) (l : k < length ns) where
       let same : getD ns k 0 ≡ e = sym (ap (λ (j : ℕ). getD ns j 0) q) ∙ at-place e rises m .0 in
       (Memᴰ·cast same m, ap (placeOf ns) same ∙ place-in e ns m ∙ ap (λ (j : ℕ). At j) q)
 
-  pub gathered-at : {places : List ℕ} → places ≡ placesOf ns → (es : List ℕ) → ((e : ℕ) → List·Memᴰ e es → e < 2048)
+  pub gathered-at : {places : List ℕ} → places ≡ placesOf ns → (es : List ℕ) → ((e : ℕ) → List·Memᴰ e es → e < maxRecords)
       → inMask (gatheredIn places 0 es) (At k) ≡ mem (getD ns k 0) es
   gathered-at {places} all es low =
       sym (ap (inMask (gatheredIn places 0 es)) (stands .1)) ∙ gathered-from rises all es low (getD ns k 0) (stands .0)
@@ -88,17 +89,17 @@ belt-literal (OfMode n w ∷ rule) m = let (y, v, j, q) = belt-literal rule m in
 
 module _ {b : List ℕ} (ok : Accepted b) where
   -- what its literals name can be looked up
-  named-low : (r : ℕ) → IsRule b r → (x : BeltId) (w : Bool) → List·Memᴰ (OfBelt x w) (ruleAt b r) → x .0 < 2048
+  named-low : (r : ℕ) → IsRule b r → (x : BeltId) (w : Bool) → List·Memᴰ (OfBelt x w) (ruleAt b r) → x .0 < maxRecords
   named-low r o x w m = belt-low ok (x .0) (literal-belt ok (ruleAt b r) (rule-in ok r o) x w m) .2
 
-  rule-low : (r : ℕ) → IsRule b r → (e : ℕ) → List·Memᴰ e (beltsIn (ruleAt b r)) → e < 2048
-  rule-low r o e m = let (x, w, i, q) = belt-literal (ruleAt b r) m in subst (λ (n : ℕ). n < 2048) (sym q) (named-low r o x w i)
+  rule-low : (r : ℕ) → IsRule b r → (e : ℕ) → List·Memᴰ e (beltsIn (ruleAt b r)) → e < maxRecords
+  rule-low r o e m = let (x, w, i, q) = belt-literal (ruleAt b r) m in subst (λ (n : ℕ). n < maxRecords) (sym q) (named-low r o x w i)
 
 -- ---- the mask of a rule, literal by literal
 
 pub record Gathering (b places : List ℕ) (first l m : ℕ) : Type 0 where
   pub is-literal : (l ≡ 0 → ⊥) → IsLiteral b l
-  pub low : (x : BeltId) (w : Bool) → List·Memᴰ (OfBelt x w) (literalsFrom b l) → x .0 < 2048
+  pub low : (x : BeltId) (w : Bool) → List·Memᴰ (OfBelt x w) (literalsFrom b l) → x .0 < maxRecords
   pub whole : gatheredIn places m (beltsIn (literalsFrom b l)) ≡ gatheredIn places 0 (beltsIn (literalsFrom b first))
 
 module _ {b : List ℕ} (ok : Accepted b) {places : List ℕ} where
@@ -115,7 +116,7 @@ module _ {b : List ℕ} (ok : Accepted b) {places : List ℕ} where
     here : literalsFrom b l ≡ literalAt b l ∷ literalsFrom b (nextLiteral b l)
     here = literals-next ok l (h .is-literal d)
 
-    pub gathering-low : (x : BeltId) (w : Bool) → OfBelt x w ≡ literalAt b l → x .0 < 2048
+    pub gathering-low : (x : BeltId) (w : Bool) → OfBelt x w ≡ literalAt b l → x .0 < maxRecords
     gathering-low x w e = h .low x w (subst (List·Memᴰ (OfBelt x w)) (sym here) (List·Memᴰ·head e))
 
     -- a literal less is left, and the mask has what it names
@@ -215,17 +216,17 @@ abbrev on : ℕ → ℕ → Bool
 on m k = inMask m (At k)
 
 module _ (m : ℕ) (xs : List ℕ) where
-  pub with-none : length xs ≡ 48 → xs ≡ withRule xs 0 m
-  with-none = seen-none (on m) xs 48
+  pub with-none : length xs ≡ maxNamed → xs ≡ withRule xs 0 m
+  with-none = seen-none (on m) xs maxNamed
 
   pub with-same : (k : ℕ) → inMask m (At k) ≡ false → withRule xs k m ≡ withRule xs (k + 1) m
-  with-same = seen-same (on m) xs 48
+  with-same = seen-same (on m) xs maxNamed
 
-  pub with-next : (k : ℕ) → k < 48 → inMask m (At k) ≡ true → set (withRule xs k m) k (getD (withRule xs k m) k 0 + 1) ≡ withRule xs (k + 1) m
-  with-next = seen-next (on m) xs 48
+  pub with-next : (k : ℕ) → k < maxNamed → inMask m (At k) ≡ true → set (withRule xs k m) k (getD (withRule xs k m) k 0 + 1) ≡ withRule xs (k + 1) m
+  with-next = seen-next (on m) xs maxNamed
 
-  pub with-now : (k : ℕ) → k < 48 → getD (withRule xs k m) k 0 ≡ getD xs k 0
-  with-now k l = seen-at (on m) xs 48 k k l ∙ seen-old (on m) xs k k (omega arith)
+  pub with-now : (k : ℕ) → k < maxNamed → getD (withRule xs k m) k 0 ≡ getD xs k 0
+  with-now k l = seen-at (on m) xs maxNamed k k l ∙ seen-old (on m) xs k k (omega arith)
 
 -- ---- all rules
 
@@ -246,7 +247,7 @@ inRules b k rules = count (inRule (getD (named (planOf b)) k 0)) rules
 
 pub record Tallied (b : List ℕ) (r : ℕ) (xs : List ℕ) : Type 0 where
   pub is-rule : (r ≡ 0 → ⊥) → IsRule b r
-  pub size : length xs ≡ 48
+  pub size : length xs ≡ maxNamed
   pub whole : (k : ℕ) → k < length (named (planOf b)) → getD xs k 0 + inRules b k (rulesFrom b r) ≡ inRules b k (planOf b .rules)
   pub spare : (k : ℕ) → length (named (planOf b)) ≤ k → getD xs k 0 ≡ 0
 
@@ -254,7 +255,7 @@ pub counts-at : (b : List ℕ) (k : ℕ) → k < length (named (planOf b)) → g
 counts-at b k l =
     let ns = named (planOf b) in
     let counts = map (ruleCount (planOf b)) ns in
-    List·getD-append counts (replicate (48 - length ns) 0) 0 k (omega (arith, length-map ns (ruleCount (planOf b))))
+    List·getD-append counts (replicate (maxNamed - length ns) 0) 0 k (omega (arith, length-map ns (ruleCount (planOf b))))
     ∙ mapped-at (ruleCount (planOf b)) ns k l
 
 -- a fresh array is 0 at each place, and past its end
@@ -270,21 +271,21 @@ counts-past : (b : List ℕ) (k : ℕ) → length (named (planOf b)) ≤ k → g
 counts-past b k l =
     let ns = named (planOf b) in
     let counts = map (ruleCount (planOf b)) ns in
-    let fresh : List ℕ = replicate (48 - length ns) 0 in
+    let fresh : List ℕ = replicate (maxNamed - length ns) 0 in
     let past = k - length counts in
     let e : k ≡ length counts + past = omega (arith, length-map ns (ruleCount (planOf b))) in
-    ap (λ (j : ℕ). getD (counts ++ fresh) j 0) e ∙ getD-append-add counts fresh past 0 ∙ fresh-at (48 - length ns) past
+    ap (λ (j : ℕ). getD (counts ++ fresh) j 0) e ∙ getD-append-add counts fresh past 0 ∙ fresh-at (maxNamed - length ns) past
 
 module _ {b : List ℕ} (ok : Accepted b) where
   abbrev ns : List ℕ
   ns = named (planOf b)
 
-  pub tallied-start : (n : ℕ) → n ≡ firstRule b → Tallied b n (replicate 48 0)
-  tallied-start n e = subst (λ (r : ℕ). Tallied b r (replicate 48 0)) (sym e) (record {
+  pub tallied-start : (n : ℕ) → n ≡ firstRule b → Tallied b n (replicate maxNamed 0)
+  tallied-start n e = subst (λ (r : ℕ). Tallied b r (replicate maxNamed 0)) (sym e) (record {
     is-rule = first-rule-is ok;
-    size = length-replicate {A = ℕ} 48 0;
-    whole = λ k l. omega (arith, fresh-at 48 k, ap (inRules b k) (rules-from ok));
-    spare = λ k l. fresh-at 48 k;
+    size = length-replicate {A = ℕ} maxNamed 0;
+    whole = λ k l. omega (arith, fresh-at maxNamed k, ap (inRules b k) (rules-from ok));
+    spare = λ k l. fresh-at maxNamed k;
   })
 
   pub tallied-few : {r : ℕ} {xs : List ℕ} → Tallied b r xs → (k : ℕ) → getD xs k 0 < 65535
@@ -298,13 +299,13 @@ module _ {b : List ℕ} (ok : Accepted b) where
   tallied-end {r} {xs} h e =
       ext-getD 0 xs (countsOf b .rules) (h .size ∙ sym full) (λ k l. go k (test (ltb k (length ns))))
     where
-      full : length (countsOf b .rules) ≡ 48
+      full : length (countsOf b .rules) ≡ maxNamed
       full =
           omega (
             arith,
-            length-append (map (ruleCount (planOf b)) ns) (replicate (48 - length ns) 0),
+            length-append (map (ruleCount (planOf b)) ns) (replicate (maxNamed - length ns) 0),
             length-map ns (ruleCount (planOf b)),
-            length-replicate {A = ℕ} (48 - length ns) 0,
+            length-replicate {A = ℕ} (maxNamed - length ns) 0,
             named-few ok,
           )
 
@@ -323,9 +324,9 @@ module _ {b : List ℕ} (ok : Accepted b) where
         → (ys : List ℕ) → ys ≡ withRule xs (length ns) m → (n : ℕ) → n ≡ nextRule b r → Tallied b n ys
     tallied-next {places} all m q ys w n e = subst (λ (i : ℕ). Tallied b i ys) (sym e) (record {
       is-rule = λ z. next-rule-is ok r (h .is-rule d) z .1;
-      size = ap length w ∙ length-seen (on m) xs 48 (length ns);
+      size = ap length w ∙ length-seen (on m) xs maxNamed (length ns);
       whole = more;
-      spare = λ k l. ap (λ (zs : List ℕ). getD zs k 0) w ∙ seen-past (on m) xs 48 (length ns) k l (h .spare k l);
+      spare = λ k l. ap (λ (zs : List ℕ). getD zs k 0) w ∙ seen-past (on m) xs maxNamed (length ns) k l (h .spare k l);
     })
       where
         -- the mask has a place exactly when the belt there is in the rule
@@ -342,7 +343,7 @@ module _ {b : List ℕ} (ok : Accepted b) where
             let rest = inRules b k (rulesFrom b (nextRule b r)) in
             let now : getD ys k 0 ≡ counted t x =
             ap (λ (zs : List ℕ). getD zs k 0) w
-            ∙ seen-at (on m) xs 48 (length ns) k (omega (arith, named-few ok))
+            ∙ seen-at (on m) xs maxNamed (length ns) k (omega (arith, named-few ok))
             ∙ seen-new (on m) xs (length ns) k l t (has k l) in
             ap (λ (i : ℕ). i + rest) now
             ∙ counted-sum t x rest

@@ -49,7 +49,7 @@ use Rattle.search.specs.declared.state.Judged.the-variants.{Drop, Best, 
 use Rattle.search.specs.Branching.{isFixed, unfixed, fixedCount, adding, requiring, forbidding, children, pickOf}
 use Rattle.search.specs.Search.{State, free, branched, settingOf, tested, compared, begun}
 use Rattle.search.specs.Answers.{problemIn}
-use Rattle.search.specs.Values.{pickedPlace, noFixings, firstSearch, waitingIn, stateIn, Deep, Valid, newestOf}
+use Rattle.search.specs.Values.{pickedPlace, noFixings, firstSearch, waitingIn, stateIn, Deep, Valid, newestOf, maxWaiting}
 use Rattle.search.specs.Inner.{childAt, branchAt, testedAs, judgedIn}
 use Rattle.search.proofs.Branches.{fixed-unfixed, picks-unfixed}
 use Rattle.search.proofs.Depth.{deep-tested, deep-begun, deep-few}
@@ -155,7 +155,7 @@ settledTo f o r v (Branch k) = withBoth (childAt f (At k) (eqb o 0)) (childAt f 
 abbrev pub Room : Search → Judged → Type 0
 Room v Drop = Unit {0}
 Room v Best = Unit {0}
-Room v (Branch k) = (v .count ≤ 47) × (k < 64)
+Room v (Branch k) = (v .count ≤ maxWaiting - 2) × (k < 64)
 
 pub record Taken (b : List ℕ) (v : Search) (f : Fixings) : Type 0 where
   pub valid : Valid b v
@@ -174,7 +174,7 @@ abbrev grown : Fixings → Fixings → ℕ → Search → Search
 grown requires forbids zero v = withBoth requires forbids v
 grown requires forbids (suc o) v = withBoth forbids requires v
 
-module _ (b : List ℕ) (v : Search) (size : length (v .waiting) ≡ 49) (room : v .count ≤ 47) where
+module _ (b : List ℕ) (v : Search) (size : length (v .waiting) ≡ maxWaiting) (room : v .count ≤ maxWaiting - 2) where
   both-state : (older newer : Fixings)
       → stateIn b (withBoth older newer v) ≡ where-wait (subproblemIn b newer ∷ subproblemIn b older ∷ stateIn b v .waiting) (stateIn b v)
   both-state older newer = λ k. where-wait (both-stored b (v .waiting) (v .count) older newer (omega (arith, size, room)) k) (stateIn b v)
@@ -236,7 +236,7 @@ pub record Settles (b : List ℕ) (v : Search) (f : Fixings) (q : Query) (r : Ro
   pub state : stateIn b (settledTo f (q .order) r v j) ≡ st
   pub valid : Valid b (settledTo f (q .order) r v j)
 
-module _ {b : List ℕ} (ok : Accepted b) (v : Search) (size : length (v .waiting) ≡ 49) (f : Fixings) (taken : Taken b v f) (q : Query) (r : Route) where
+module _ {b : List ℕ} (ok : Accepted b) (v : Search) (size : length (v .waiting) ≡ maxWaiting) (f : Fixings) (taken : Taken b v f) (q : Query) (r : Route) where
   abbrev subproblem : Subproblem
   subproblem = subproblemIn b f
 
@@ -244,7 +244,7 @@ module _ {b : List ℕ} (ok : Accepted b) (v : Search) (size : length (v .waitin
   abbrev at : Option ℕ → Judged
   at o = branchAt (pickedPlace (named (planOf b)) o)
 
-  few-wait : (e : ℕ) → List·Memᴰ e (unfixed (planOf b) subproblem) → v .count ≤ 47
+  few-wait : (e : ℕ) → List·Memᴰ e (unfixed (planOf b) subproblem) → v .count ≤ maxWaiting - 2
   few-wait e u =
       omega (arith, taken .room, fixed-unfixed (planOf b) subproblem, some-long (unfixed (planOf b) subproblem) u, named-few ok)
 
@@ -256,7 +256,7 @@ module _ {b : List ℕ} (ok : Accepted b) (v : Search) (size : length (v .waitin
       let ns = named (planOf b) in
       let u = h e refl in
       let i = keep-in (λ (n : ℕ). not (isFixed subproblem n)) ns u .0 in
-      let few : v .count ≤ 47 = few-wait e u in
+      let few : v .count ≤ maxWaiting - 2 = few-wait e u in
       let requires = childAt f (placeOf ns e) true in
       let forbids = childAt f (placeOf ns e) false in
       let whole : settledTo f (q .order) r v (at (some e)) ≡ grown requires forbids (q .order) v =
@@ -319,11 +319,11 @@ newest-waits b v h =
     ∙ sym (ap (λ (xs : List Subproblem). subproblemIn b (newestOf v) ∷ xs)
     (stored-beyond b (v .waiting) (v .count - 1) (v .count - 1) noFixings (omega arith)))
 
-pub count-few : {b : List ℕ} → Accepted b → {v : Search} → Valid b v → v .count ≤ 49
+pub count-few : {b : List ℕ} → Accepted b → {v : Search} → Valid b v → v .count ≤ maxWaiting
 count-few {b} ok {v} valid =
     omega (arith, deep-few (planOf b) (stateIn b v .waiting) (valid .deep), waiting-length b (v .waiting) (v .count), named-few ok)
 
-pub popped-taken : {b : List ℕ} → Accepted b → (v : Search) → length (v .waiting) ≡ 49 → Valid b v → (v .count ≡ 0 → ⊥)
+pub popped-taken : {b : List ℕ} → Accepted b → (v : Search) → length (v .waiting) ≡ maxWaiting → Valid b v → (v .count ≡ 0 → ⊥)
     → Taken b (popped v) (newestOf v)
 popped-taken {b} ok v size valid waits =
     let xs = v .waiting in
@@ -366,11 +366,11 @@ all-none (suc n) (suc i) = all-none n i
 
 pub first-valid : (b : List ℕ) → Valid b firstSearch
 first-valid b =
-    let masked : (i : ℕ) → Masked b (getD (firstSearch .waiting) i noFixings) = λ i. subst (Masked b) (sym (all-none 49 i)) (none-masked b) in record {
+    let masked : (i : ℕ) → Masked b (getD (firstSearch .waiting) i noFixings) = λ i. subst (Masked b) (sym (all-none maxWaiting i)) (none-masked b) in record {
       required = λ i. masked i .0;
       forbidden = λ i. masked i .1;
       deep = subst (λ (st : State). Deep (planOf b) (st .waiting)) (sym (first-state b)) (deep-begun (planOf b));
-      spare = λ i h. all-none 49 i;
+      spare = λ i h. all-none maxWaiting i;
       known = record { few = omega arith; belts = λ e m. absurd (List·Memᴰ·not-nil m) };
       rest-zero = refl;
       unheld = λ h. refl;

@@ -43,7 +43,7 @@ use Rattle.search.specs.declared.state.Ending as code
 use Rattle.search.specs.declared.state.Ending.the-variants.{GoesOn, Found, Nothing, Spent}
 use Rattle.search.specs.Search.{State, Ending, foundRoute, foundNone, budgetSpent, Turn, improves, considered, atEnd, budgeted, stepOf, step, runs, run}
 use Rattle.search.specs.Answers.{problemIn}
-use Rattle.search.specs.Values.{pickedPlace, firstSearch, waitingIn, bestIn, stateIn, endingIn, turnIn, Valid, newestOf, relaxedIn}
+use Rattle.search.specs.Values.{pickedPlace, firstSearch, waitingIn, bestIn, stateIn, endingIn, turnIn, Valid, newestOf, relaxedIn, maxWaiting}
 use Rattle.search.specs.Inner.{endedAs, testedAs, heldAs, betterIn, judgedIn}
 use Rattle.search.proofs.Steps.{run-goes, run-ends}
 use Rattle.search.proofs.Picks.{pick-cong}
@@ -80,7 +80,7 @@ module _ {b : List ℕ} (ok : Accepted b) (q : Query) (f : Fixings) where
       let picked = pick-cong (q .pick) p (subproblemIn b f) (hasBelt b m) (passes (routeIn b r)) named-same in
       λ i. testedAs (pickedPlace (named p) (picked i)) (setting i)
 
-module _ {b : List ℕ} (ok : Accepted b) (bytes : Bytes b) (v : Search) (size : length (v .waiting) ≡ 49) (f : Fixings) (taken : Taken b v f) (q : Query)
+module _ {b : List ℕ} (ok : Accepted b) (bytes : Bytes b) (v : Search) (size : length (v .waiting) ≡ maxWaiting) (f : Fixings) (taken : Taken b v f) (q : Query)
     (ends : wrongEnds (planOf b) (q .trip .s) (q .trip .t) ≡ false) where
   pub judged-settles : (o : Option (List Belt)) → relaxedIn b (q .trip) f ≡ o
       → Settles b v f q (heldAs o) (considered (problemIn b q) (subproblemIn b f) (stateIn b v) o)

@@ -27,6 +27,7 @@ use mathlib.Core.List.{List, [], _∷_, map, List·Memᴰ, List·Memᴰ·head, L
 use native.Mathlib.Omega.{arith}
 use lib.Dec.{leb}
 use borrow.Author.Tests.{ltb-false, leb-true, le-leb, le-ltb, not-false}
+use Rattle.plan.specs.Bounds.{maxSheetBytes}
 use Rattle.plan.specs.Plan.{Belt, planOf}
 use Rattle.plan.specs.Refusals.{Line, about}
 use Rattle.plan.specs.Reading.{Accepted}
@@ -117,13 +118,13 @@ module _ (k : Request) where
       go l (inr a) = ap (λ (y : Line Request). y .broken k) (List·Memᴰ·eq-of-singleton a) ∙ e
 
   -- line 10
-  buffer-long : broken10 k ≡ false → 3072 ≤ k .room
+  buffer-long : broken10 k ≡ false → maxSheetBytes ≤ k .room
   unfolding broken10
-  buffer-long e = ltb-false (k .room) 3072 e
+  buffer-long e = ltb-false (k .room) maxSheetBytes e
 
-  long-buffer : 3072 ≤ k .room → broken10 k ≡ false
+  long-buffer : maxSheetBytes ≤ k .room → broken10 k ≡ false
   unfolding broken10
-  long-buffer h = le-ltb (k .room) 3072 h
+  long-buffer h = le-ltb (k .room) maxSheetBytes h
 
 pub limits-claim : InLimitsClaim
 limits-claim k = (to, from)

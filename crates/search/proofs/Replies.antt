@@ -20,6 +20,7 @@ use native.Mathlib.Omega.{arith}
 use lib.ListN.{length, drop}
 use borrow.Author.Tests.{lt-ltb, le-ltb}
 use Rattle.plan.specs.declared.refusal.Refusal.{Refusal}
+use Rattle.plan.specs.Bounds.{maxSheetBytes}
 use Rattle.plan.specs.Plan.{Belt, planOf}
 use Rattle.plan.specs.Refusals.{Line, about, firstBroken, refusalNumber}
 use Rattle.plan.specs.Claims.{Unbroken}
@@ -115,13 +116,13 @@ module _ (k : Request) (fine : Unbroken tripLines (tripIn (asked k))) where
         let zero : firstBroken queryFront k ≡ 0 = past-trip ∙ on-unbroken line9 [] (asked k) right in
         past queryFront (line10 ∷ []) k (passed queryFront k refl zero)
 
-    pub refused-10 : k .room < 3072 → searchRefusal k ≡ 10
+    pub refused-10 : k .room < maxSheetBytes → searchRefusal k ≡ 10
     unfolding broken10
-    refused-10 h = past-9 ∙ on-broken line10 [] k (lt-ltb (k .room) 3072 h)
+    refused-10 h = past-9 ∙ on-broken line10 [] k (lt-ltb (k .room) maxSheetBytes h)
 
-    pub none-refused : 3072 ≤ k .room → searchRefusal k ≡ 0
+    pub none-refused : maxSheetBytes ≤ k .room → searchRefusal k ≡ 0
     unfolding broken10
-    none-refused h = past-9 ∙ on-unbroken line10 [] k (le-ltb (k .room) 3072 h)
+    none-refused h = past-9 ∙ on-unbroken line10 [] k (le-ltb (k .room) maxSheetBytes h)
 
 -- ---- what the request comes to
 

@@ -30,6 +30,7 @@ use mathlib.Core.Option.{Option, none, some}
 use mathlib.Core.List.{List, [], _∷_, _++_, map}
 use lib.ListN.{length, drop}
 use lib.Dec.{leb, ltb}
+use Rattle.plan.specs.Bounds.{maxSheetBytes}
 use Rattle.plan.specs.Plan.{Belt, planOf, namesOf}
 use Rattle.plan.specs.Refusals.{Line, about, firstBroken, refusalNumber}
 use Rattle.route.specs.Routes.{cost}
@@ -66,9 +67,9 @@ wrongQuery q = not (leb (q .pick) 2 && leb (q .order) 1 && leb 1 (q .budget))
 unfoldable pub broken9 : Asked → Bool
 broken9 k = wrongQuery (k .query)
 
--- 10: out buffer under 3,072 bytes
+-- 10: out buffer shorter than the largest sheet, 3,072 bytes
 unfoldable pub broken10 : Request → Bool
-broken10 k = ltb (k .room) 3072
+broken10 k = ltb (k .room) maxSheetBytes
 
 abbrev pub line9 : Line Asked
 line9 = record { number = 9; broken = broken9 }

@@ -32,7 +32,7 @@
 --   FixesClaim          every waiting subproblem of every state fixes named belts only, and none twice (FixesNamed, NoneTwice)
 --   BestClaim           the best of every state is a permitted route
 --   WithinClaim         after any number of steps a run stands in a state of the sequence, and has opened no more than the budget
---   SoundClaim          so after any number of steps of a search that is asked for, at most 49 wait, the i-th oldest fixes at least i - 1 belts,
+--   SoundClaim          so after any number of steps of a search that is asked for, at most maxWaiting wait, the i-th oldest fixes at least i - 1 belts,
 --                       each fixes named belts only and none twice, the best is a permitted route, and the budget is not exceeded (Sound)
 --   ValidClaim          a Search holds nothing beside its state
 --
@@ -44,6 +44,7 @@ use mathlib.Core.Option.{none, some}
 use Prim.Native.Nat.{ℕ, _+_, _-_, _^_, _≤_, _<_}
 use mathlib.Core.List.{List, [], _∷_, _++_, map, List·Memᴰ}
 use lib.ListN.{length, getD, take, drop}
+use Rattle.plan.specs.Bounds.{maxSheetBytes}
 use Rattle.plan.specs.Lists.{any}
 use Rattle.plan.specs.Plan.{Belt, Plan, planOf, namesOf, inRule, named}
 use Rattle.plan.specs.Limits.{Limits}
@@ -62,7 +63,7 @@ use Rattle.search.specs.declared.state.Search.{Search}
 use Rattle.search.specs.Branching.{unfixed, fixedCount}
 use Rattle.search.specs.Search.{Problem, State, free, begun, stateAt, foundRoute, foundNone, budgetSpent, runs, run}
 use Rattle.search.specs.Answers.{Asked, Request, queryLines, searchLines, searchRefusal, Outcome, refused, route, nothing, spent, paused, outcome, problemIn, outAfter}
-use Rattle.search.specs.Values.{stateIn, Valid}
+use Rattle.search.specs.Values.{maxWaiting, stateIn, Valid}
 
 -- ---- demand 1
 
@@ -78,7 +79,7 @@ pub record InLimits (k : Request) : Type 0 where
   pub pick : k .query .pick ≤ 2
   pub order : k .query .order ≤ 1
   pub budget : 1 ≤ k .query .budget
-  pub room : 3072 ≤ k .room
+  pub room : maxSheetBytes ≤ k .room
 
 abbrev pub InLimitsClaim : Type 0
 InLimitsClaim = (k : Request) → InLimits k ↔ (searchRefusal k ≡ 0)
@@ -231,7 +232,7 @@ WithinClaim = (q : Problem) (budget n : ℕ)
 
 -- what holds between any two steps of a search that is asked for
 pub record Sound (k : Asked) (st : State) : Type 0 where
-  pub few : length (st .waiting) ≤ 49
+  pub few : length (st .waiting) ≤ maxWaiting
   pub deep : (i j : ℕ) → 1 ≤ i → i + j ≡ length (st .waiting) → i - 1 ≤ fixedCount (planOf (k .plan)) (getD (st .waiting) j free)
   pub fixes : (x : Subproblem) → List·Memᴰ x (st .waiting) → FixesNamed (planOf (k .plan)) x
   pub permitted : (r : List Belt) → st .best ≡ some r → IsPermitted (planOf (k .plan)) (k .query .trip) r
@@ -241,7 +242,7 @@ abbrev pub SoundClaim : Type 0
 SoundClaim = (k : Asked) → Unbroken queryLines k → (n : ℕ) → Sound k (runs (problemIn (k .plan) (k .query)) (k .query .budget) n begun .state)
 
 abbrev pub ValidClaim : Type 0
-ValidClaim = (b : List ℕ) → Accepted b → (v w : Search) → length (v .waiting) ≡ 49 → length (w .waiting) ≡ 49 → Valid b v → Valid b w
+ValidClaim = (b : List ℕ) → Accepted b → (v w : Search) → length (v .waiting) ≡ maxWaiting → length (w .waiting) ≡ maxWaiting → Valid b v → Valid b w
     → stateIn b v ≡ stateIn b w → v ≡ w
 
 -- all of them

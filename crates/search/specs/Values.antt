@@ -3,6 +3,7 @@
 --   countsOf b          how many named belts the plan b has, and in how many rules each of them is, the rest of the array 0
 --   pickedPlace ns o    the place of the belt picked, among the named belts ns; no place where none is
 --   noFixings           the masks of the subproblem that fixes nothing
+--   maxWaiting          how many subproblems can wait at once: each fixes as many named belts as there are older ones, or more
 --   firstSearch         a Search at its beginning
 --   waitingIn b xs n    the subproblems of the plan b that the first n masks of the array xs stand for, the last of them first: the newest
 --                       stands last in the array
@@ -25,7 +26,7 @@
 --
 -- Assumes nothing.
 use mathlib.Core.Path.{_≡_}
-use Prim.Native.Nat.{ℕ, zero, suc, _-_, _≤_}
+use Prim.Native.Nat.{ℕ, zero, suc, _+_, _-_, _≤_}
 use mathlib.Core.Bool.{Bool, true, false, _||_}
 use mathlib.Core.Option.{Option, none, some}
 use mathlib.Core.List.{List, [], _∷_, _++_, map}
@@ -33,6 +34,7 @@ use lib.ListN.{length, getD, replicate}
 use lib.Dec.{eqb}
 use Rattle.plan.specs.declared.named.Place.{Place}
 use Rattle.plan.specs.declared.named.Place.the-variants.{Unnamed}
+use Rattle.plan.specs.Bounds.{maxNamed}
 use Rattle.plan.specs.Plan.{Belt, Plan, planOf, named, placeOf}
 use Rattle.plan.specs.Adjacency.{arcsIn, endsOf}
 use Rattle.plan.specs.Reading.{Accepted}
@@ -57,7 +59,7 @@ use Rattle.search.specs.Answers.{Request, problemIn}
 abbrev pub countsOf : List ℕ → Counts
 countsOf b = record {
   named = length (named (planOf b));
-  rules = map (ruleCount (planOf b)) (named (planOf b)) ++ replicate (48 - length (named (planOf b))) 0;
+  rules = map (ruleCount (planOf b)) (named (planOf b)) ++ replicate (maxNamed - length (named (planOf b))) 0;
 }
 
 abbrev pub pickedPlace : List ℕ → Option ℕ → Place
@@ -69,8 +71,11 @@ pickedPlace ns (some e) = placeOf ns e
 abbrev pub noFixings : Fixings
 noFixings = record { required = 0; forbidden = 0 }
 
+abbrev pub maxWaiting : ℕ
+maxWaiting = maxNamed + 1
+
 abbrev pub firstSearch : Search
-firstSearch = record { waiting = replicate 49 noFixings; count = 1; opened = 0; best = packed []; found = false }
+firstSearch = record { waiting = replicate maxWaiting noFixings; count = 1; opened = 0; best = packed []; found = false }
 
 abbrev pub waitingIn : List ℕ → List Fixings → ℕ → List Subproblem
 waitingIn b xs zero = []

@@ -26,10 +26,13 @@ ghost use Rattle.route.specs.Values.{OfNamed, hasBelt, Clauses};
 ghost use Rattle.search.specs.Values.{countsOf, turnIn, Valid, boundIn, firstSearch, noFixings, Ready, stepIn, keptIn};
 ghost use Rattle.search.specs.Inner.{endedAs, childAt, judgedIn};
 
+// How many subproblems can wait at once: each fixes as many named belts as there are older ones, or more.
+pub const MAX_WAITING: usize = MAX_NAMED + 1;
+
 // A search: the subproblems that wait are the first `count` of the array, the newest last; how many have been opened; and the best route
 // so far, if one is found. What is not in use is 0. It is handed on by value, and holds nothing that follows from the rest of it.
 pub struct Search {
-    pub waiting: [Fixings; 49],
+    pub waiting: [Fixings; MAX_WAITING],
     pub count: usize,
     pub opened: u64,
     pub best: Route,
@@ -82,7 +85,7 @@ pub fn begin() -> Search
 {
     let none = free();
     Search {
-        waiting: [none; 49],
+        waiting: [none; MAX_WAITING],
         count: 1,
         opened: 0,
         best: Route {

@@ -15,6 +15,7 @@ use output::Gathered;
 use output::Room;
 use output::put;
 use output::put_number;
+use plan::bounds::MAX_RECORDS;
 use plan::check::Verdict;
 use plan::named::Place;
 use plan::read::BeltId;
@@ -31,7 +32,7 @@ fn put_belt(
     room: &mut Room,
     gathered: Gathered,
     p: &[u8],
-    places: &[u8; 2048],
+    places: &[u8; MAX_RECORDS],
     j: usize,
     belt: BeltId,
 ) -> Gathered
@@ -54,7 +55,7 @@ fn put_leaving(
     room: &mut Room,
     gathered: Gathered,
     p: &[u8],
-    places: &[u8; 2048],
+    places: &[u8; MAX_RECORDS],
     j: usize,
 ) -> Gathered
     requires { ⌜ Accepted (now p) × (1 ≤ j) × (j ≤ planOf (now p) .junctions) ⌝ }

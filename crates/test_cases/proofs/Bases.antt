@@ -1,7 +1,7 @@
 -- Laws of the plans that cases start from (specs/Plans.antt): of a record written over bytes that are known, of the two loops that write a pair
 -- of records at each turn, and of the plan that a line says.
 --
---   blank-is       an array of 24,600 zeros is the bytes before anything is written
+--   blank-is       an array of caseBytes zeros is the bytes before anything is written
 --   over           a record that is written over b is written over a, where b ≡ a
 --   twins-next     a turn of the loop over belts: to write those that are left gives what it gave before the turn
 --   twins-done     the end of that loop: all belts are written over what stood there before it
@@ -24,11 +24,11 @@ use Rattle.test_cases.specs.declared.lines.Number.{Number}
 use Rattle.test_cases.specs.declared.plans.Base.{Base}
 use Rattle.test_cases.specs.declared.plans.Base.the-variants.{P, Named, Row}
 use Rattle.test_cases.specs.declared.plans.Plan.{Plan}
-use Rattle.test_cases.specs.Records.{putRecord}
+use Rattle.test_cases.specs.Records.{putRecord, caseBytes}
 use Rattle.test_cases.specs.Lines.{numberAt, numbersIn, changed}
 use Rattle.test_cases.specs.Plans.{blank, fields, putTwins, putLinks, putBase, baseOf, planAt}
 
-pub blank-is : replicate 24600 0 ≡ blank
+pub blank-is : replicate caseBytes 0 ≡ blank
 unfolding blank
 blank-is = refl
 

@@ -14,8 +14,9 @@ use native.Mathlib.Numerals.{add-one}
 use lib.Dec.{ltb}
 use lib.ListN.{getD, drop}
 use borrow.Author.Tests.{lt-ltb, le-ltb}
+use Rattle.plan.specs.Bounds.{fieldLimit, recordBytes}
 use Rattle.plan.specs.Records.{fieldBytes, recordOf, placed}
-use Rattle.test_cases.specs.Records.{putBy, putField, putRecord}
+use Rattle.test_cases.specs.Records.{putBy, putField, putRecord, caseRecords}
 use Rattle.test_cases.specs.declared.lines.Number.{Number}
 use Rattle.test_cases.specs.Lines.{numberAt, numbersIn, putNumber, changedBy}
 use Rattle.test_cases.proofs.Scan.{numbers-found, numbers-none}
@@ -24,18 +25,18 @@ use Rattle.test_cases.proofs.Scan.{numbers-found, numbers-none}
 
 module _ (b : List ℕ) (r f v : ℕ) where
   -- what is written is decided by the test of record and field
-  field-by : (t : Bool) → (ltb r 2050 && ltb f 6) ≡ t → putBy t b (12 * r + 2 * f) (fieldBytes v) ≡ putField b r f v
+  field-by : (t : Bool) → (ltb r caseRecords && ltb f 6) ≡ t → putBy t b (recordBytes * r + 2 * f) (fieldBytes v) ≡ putField b r f v
   unfolding putField
-  field-by t h = ap (λ (s : Bool). putBy s b (12 * r + 2 * f) (fieldBytes v)) (sym h)
+  field-by t h = ap (λ (s : Bool). putBy s b (recordBytes * r + 2 * f) (fieldBytes v)) (sym h)
 
-  pub field-put : r < 2050 → f < 6 → placed b (12 * r + 2 * f) (fieldBytes v) ≡ putField b r f v
-  field-put h k = field-by true (ap (λ (s : Bool). s && ltb f 6) (lt-ltb r 2050 h) ∙ lt-ltb f 6 k)
+  pub field-put : r < caseRecords → f < 6 → placed b (recordBytes * r + 2 * f) (fieldBytes v) ≡ putField b r f v
+  field-put h k = field-by true (ap (λ (s : Bool). s && ltb f 6) (lt-ltb r caseRecords h) ∙ lt-ltb f 6 k)
 
-  pub no-record : 2050 ≤ r → b ≡ putField b r f v
-  no-record h = field-by false (ap (λ (s : Bool). s && ltb f 6) (le-ltb r 2050 h))
+  pub no-record : caseRecords ≤ r → b ≡ putField b r f v
+  no-record h = field-by false (ap (λ (s : Bool). s && ltb f 6) (le-ltb r caseRecords h))
 
-  pub no-field : r < 2050 → 6 ≤ f → b ≡ putField b r f v
-  no-field h k = field-by false (ap (λ (s : Bool). s && ltb f 6) (lt-ltb r 2050 h) ∙ le-ltb f 6 k)
+  pub no-field : r < caseRecords → 6 ≤ f → b ≡ putField b r f v
+  no-field h k = field-by false (ap (λ (s : Bool). s && ltb f 6) (lt-ltb r caseRecords h) ∙ le-ltb f 6 k)
 
 -- ---- a record
 
@@ -44,31 +45,31 @@ module _ (b : List ℕ) (r : ℕ) (fs : List ℕ) where
   abbrev bytes : List ℕ
   bytes = recordOf (getD fs 0 0) (getD fs 1 0) (getD fs 2 0) (getD fs 3 0) (getD fs 4 0) (getD fs 5 0)
 
-  pub record-put : r < 2050 → placed b (12 * r) bytes ≡ putRecord b r fs
+  pub record-put : r < caseRecords → placed b (recordBytes * r) bytes ≡ putRecord b r fs
   unfolding putRecord
-  record-put h = ap (λ (s : Bool). putBy s b (12 * r) bytes) (sym (lt-ltb r 2050 h))
+  record-put h = ap (λ (s : Bool). putBy s b (recordBytes * r) bytes) (sym (lt-ltb r caseRecords h))
 
-  pub no-room : 2050 ≤ r → b ≡ putRecord b r fs
+  pub no-room : caseRecords ≤ r → b ≡ putRecord b r fs
   unfolding putRecord
-  no-room h = ap (λ (s : Bool). putBy s b (12 * r) bytes) (sym (le-ltb r 2050 h))
+  no-room h = ap (λ (s : Bool). putBy s b (recordBytes * r) bytes) (sym (le-ltb r caseRecords h))
 
 -- ---- a number for a field
 
 module _ (b : List ℕ) (i f v : ℕ) where
   -- `putNumber` by the values of its two tests
-  by-tests : (s t : Bool) → ltb i 65536 ≡ s → ltb v 65536 ≡ t
+  by-tests : (s t : Bool) → ltb i fieldLimit ≡ s → ltb v fieldLimit ≡ t
       → putNumber b i f v ≡ elim s [ true ↦ elim t [ true ↦ putField b i f v | false ↦ b ] | false ↦ b ]
   by-tests s t h k =
       λ j. elim (h j) as (λ x. List ℕ) [ true ↦ elim (k j) as (λ x. List ℕ) [ true ↦ putField b i f v | false ↦ b ] | false ↦ b ]
 
-  pub number-put : i < 65536 → v < 65536 → putField b i f v ≡ putNumber b i f v
-  number-put h k = sym (by-tests true true (lt-ltb i 65536 h) (lt-ltb v 65536 k))
+  pub number-put : i < fieldLimit → v < fieldLimit → putField b i f v ≡ putNumber b i f v
+  number-put h k = sym (by-tests true true (lt-ltb i fieldLimit h) (lt-ltb v fieldLimit k))
 
-  pub wide-value : i < 65536 → 65536 ≤ v → b ≡ putNumber b i f v
-  wide-value h k = sym (by-tests true false (lt-ltb i 65536 h) (le-ltb v 65536 k))
+  pub wide-value : i < fieldLimit → fieldLimit ≤ v → b ≡ putNumber b i f v
+  wide-value h k = sym (by-tests true false (lt-ltb i fieldLimit h) (le-ltb v fieldLimit k))
 
-  pub wide-index : 65536 ≤ i → b ≡ putNumber b i f v
-  wide-index h = sym (by-tests false (ltb v 65536) (le-ltb i 65536 h) (λ _. ltb v 65536))
+  pub wide-index : fieldLimit ≤ i → b ≡ putNumber b i f v
+  wide-index h = sym (by-tests false (ltb v fieldLimit) (le-ltb i fieldLimit h) (λ _. ltb v fieldLimit))
 
 -- ---- the numbers of a line
 

@@ -21,6 +21,7 @@ use mathlib.Core.List.{List, [], _∷_}
 use lib.ListN.{drop}
 use lib.Dec.{eqb, leb, ltb}
 use Rattle.test_cases.specs.declared.lines.Number.{Number}
+use Rattle.plan.specs.Bounds.{fieldLimit}
 use Rattle.test_cases.specs.Records.{putField}
 
 abbrev pub isDigit : ℕ → Bool
@@ -71,7 +72,7 @@ nameLength [] = 0
 nameLength (c ∷ cs) = elim (eqb c 32) [ true ↦ 0 | false ↦ suc (nameLength cs) ]
 
 abbrev pub putNumber : List ℕ → ℕ → ℕ → ℕ → List ℕ
-putNumber b i f v = elim (ltb i 65536) [ true ↦ elim (ltb v 65536) [ true ↦ putField b i f v | false ↦ b ] | false ↦ b ]
+putNumber b i f v = elim (ltb i fieldLimit) [ true ↦ elim (ltb v fieldLimit) [ true ↦ putField b i f v | false ↦ b ] | false ↦ b ]
 
 -- i is the index at hand, and the next number is for field f, or with 6 the next index
 abbrev pub changedBy : List ℕ → ℕ → ℕ → List ℕ → List ℕ

@@ -19,11 +19,11 @@ use Rattle.plan.specs.Lists.{upto}
 use Rattle.test_cases.specs.declared.plans.Base.{Base}
 use Rattle.test_cases.specs.declared.plans.Base.the-variants.{P, Named, Row}
 use Rattle.test_cases.specs.declared.plans.Plan.{Plan}
-use Rattle.test_cases.specs.Records.{putRecord, written}
+use Rattle.test_cases.specs.Records.{putRecord, written, caseBytes}
 use Rattle.test_cases.specs.Lines.{numberAt, numbersIn, changed}
 
 unfoldable pub blank : List ℕ
-blank = replicate 24600 0
+blank = replicate caseBytes 0
 
 abbrev pub fields : ℕ → ℕ → ℕ → ℕ → ℕ → ℕ → List ℕ
 fields a b c d e f = a ∷ b ∷ c ∷ d ∷ e ∷ f ∷ []

@@ -1,6 +1,7 @@
 // Lines of text: numbers and signs. The signs are a bar, a plus, a minus and the end of the line; numbers are parted by any other bytes.
 use crate::records;
 use crate::records::Bytes;
+use plan::bounds::FIELD_LIMIT;
 ghost use mathlib.Core.Path.{_≡_};
 ghost use mathlib.Core.Bool.{true};
 ghost use Prim.Native.Nat.{_≤_, _<_};
@@ -111,8 +112,8 @@ pub fn next_line(text: &[u8], at: usize) -> usize
 fn put_number(buf: &mut Bytes, index: u64, field: usize, value: u64)
     ensures { λ _. ⌜ now (buf .exit) ≡ putNumber (now (buf .entry)) index field value ⌝ }
 {
-    if index < 65536 {
-        if value < 65536 {
+    if index < FIELD_LIMIT as u64 {
+        if value < FIELD_LIMIT as u64 {
             records::put_field(buf, index as usize, field, value as u16);
         }
     }

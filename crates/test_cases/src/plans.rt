@@ -1,6 +1,7 @@
 // The plans that cases start from, written field by field, and the lines of text that say where a plan starts from and how it differs.
 use crate::lines;
 use crate::records::Bytes;
+use crate::records::CASE_BYTES;
 use crate::records::put;
 ghost use mathlib.Core.Path.{_≡_};
 ghost use Prim.Native.Nat.{_+_};
@@ -28,7 +29,7 @@ pub struct Plan {
 pub fn none() -> Plan
     ensures { λ v. ⌜ (v .bytes ≡ blank) × (v .size ≡ 0) ⌝ }
 {
-    let bytes = [0u8; 24600];
+    let bytes = [0u8; CASE_BYTES];
     Plan {
         bytes: bytes,
         size: 0,
@@ -114,7 +115,7 @@ pub fn base_of(text: &[u8], at: usize) -> Base
 pub fn read(text: &[u8], at: usize) -> Plan
     ensures { λ v. ⌜ v ≡ planAt (now (text .entry)) at ⌝ }
 {
-    let mut bytes = [0u8; 24600];
+    let mut bytes = [0u8; CASE_BYTES];
     put_base(&mut bytes, base_of(text, at));
     let size = lines::next_number(text, at);
     lines::change_records(&mut bytes, text, size.next);

@@ -1,4 +1,5 @@
 // The plans that the cases start from, written field by field.
+use plan::bounds::MAX_RECORDS;
 use test_cases::plans::put_p;
 use test_cases::records::Bytes;
 use test_cases::records::put;
@@ -65,7 +66,7 @@ fn put_named(buf: &mut Bytes, last: u16) {
     put_belts(buf, 52);
     put(buf, 53, [3, 0, 54, 0, 0, 0]);
     put_literals(buf, last);
-    if last < 2048 {
+    if (last as usize) < MAX_RECORDS {
         put(buf, 0, [7, 2, 1, 53, last + 1, 0]);
     }
 }

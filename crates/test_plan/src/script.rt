@@ -6,6 +6,7 @@ use test_cases::lines;
 use test_cases::print::print_name;
 use test_cases::print::print_number;
 use test_cases::records::Bytes;
+use test_cases::records::CASE_BYTES;
 
 // Prints the number that the check answers to the first n bytes; nothing where there are fewer.
 fn print_check(bytes: &[u8], n: usize) {
@@ -22,7 +23,7 @@ fn print_answer(buf: &Bytes, n: usize) {
 
 // Runs the case whose line begins at `at`.
 fn case(base: Base, text: &[u8], at: usize) {
-    let mut buf = [0u8; 24600];
+    let mut buf = [0u8; CASE_BYTES];
     plans::put_base(&mut buf, base);
     let name_end = print_name(text, at);
     let size = lines::next_number(text, name_end);

@@ -1,4 +1,7 @@
 // What is printed of a case: its relaxed route, or why there is none.
+use plan::bounds::JUNCTION_PLACES;
+use plan::bounds::MAX_RECORDS;
+use plan::bounds::MAX_STEPS;
 use plan::named::Place;
 use plan::read::BeltId;
 use route::masks;
@@ -12,6 +15,7 @@ ghost use mathlib.Core.Path.{_≡_};
 ghost use mathlib.Core.Bool.{true, false};
 ghost use Prim.Native.Nat.{_^_, _<_};
 ghost use lib.ListN.{length};
+ghost use Rattle.plan.specs.Bounds.{maxSteps};
 ghost use Rattle.plan.specs.Plan.{planOf};
 ghost use Rattle.plan.specs.Reading.{Accepted};
 ghost use Rattle.route.specs.Routes.{wrongEnds};
@@ -24,8 +28,8 @@ struct Mask {
 }
 
 // The place of a belt, which may be any number.
-fn place_of(places: &[u8; 2048], belt: u64) -> Place {
-    if belt < 2048 {
+fn place_of(places: &[u8; MAX_RECORDS], belt: u64) -> Place {
+    if belt < MAX_RECORDS as u64 {
         return plan::named::place_of(places, BeltId(belt as u16));
     }
     Place::Unnamed
@@ -48,7 +52,7 @@ fn with(mask: Mask, place: Place) -> Mask {
 }
 
 // The belts behind `at`, up to the next sign.
-fn mask_of(places: &[u8; 2048], text: &[u8], at: usize) -> Mask {
+fn mask_of(places: &[u8; MAX_RECORDS], text: &[u8], at: usize) -> Mask {
     let mut mask = Mask {
         named: true,
         bits: 0,
@@ -75,30 +79,30 @@ fn within(mask: Mask, end: usize) -> bool
 }
 
 // Prints a summary, and the belts of its route, whose numbers are in `kept`.
-fn print_relaxed(summary: Summary, kept: &[u16; 255])
-    requires { ⌜ length (now kept) ≡ 255 ⌝ }
+fn print_relaxed(summary: Summary, kept: &[u16; MAX_STEPS])
+    requires { ⌜ length (now kept) ≡ maxSteps ⌝ }
 {
     if route::relax::UNBOUNDED < summary.cost {
         io::write_all(1, b" none");
         return;
     }
     print_number(b" ", summary.cost);
-    if summary.count <= 255 {
+    if summary.count <= MAX_STEPS {
         listing::print_belts(route::path::of_belts(kept, summary.count));
     }
 }
 
 // Prints the relaxed route of a subproblem, over what is made of the plan for it.
-fn print_over(p: &[u8], places: &[u8; 2048], trip: Trip, fixings: Fixings)
+fn print_over(p: &[u8], places: &[u8; MAX_RECORDS], trip: Trip, fixings: Fixings)
     requires { ⌜ Accepted (now p) × (now places ≡ namedPlaces (now p)) × (wrongEnds (planOf (now p)) (trip .s) (trip .t) ≡ false) × OfNamed (now p) (fixings .required) ⌝ }
 {
-    let mut arcs = [0u64; 2048];
+    let mut arcs = [0u64; MAX_RECORDS];
     let ends = plan::adjacency::decode(p, &mut arcs);
-    let mut exits = [0u64; 257];
+    let mut exits = [0u64; JUNCTION_PLACES];
     route::relax::exits(p, places, &ends, &arcs, &mut exits);
     let belts = route::relax::numbers(p, plan::named::named_belts(p));
-    let mut ways = [0u64; 257];
-    let mut kept = [0u16; 255];
+    let mut ways = [0u64; JUNCTION_PLACES];
+    let mut kept = [0u16; MAX_STEPS];
     let summary = route::relax::relaxed_route(
         p,
         places,
@@ -117,7 +121,7 @@ fn print_over(p: &[u8], places: &[u8; 2048], trip: Trip, fixings: Fixings)
 
 // The relaxed route between two junctions of an accepted plan. The places of named belts are below their count, so no mask of theirs goes
 // beyond it.
-fn print_fixed(p: &[u8], places: &[u8; 2048], trip: Trip, required: Mask, forbidden: Mask)
+fn print_fixed(p: &[u8], places: &[u8; MAX_RECORDS], trip: Trip, required: Mask, forbidden: Mask)
     requires { ⌜ Accepted (now p) × (now places ≡ namedPlaces (now p)) × (wrongEnds (planOf (now p)) (trip .s) (trip .t) ≡ false) ⌝ }
 {
     let named = plan::named::named_belts(p);

@@ -1,4 +1,5 @@
 // What is printed of a case: the planner's answers, as the listing has them.
+use plan::bounds::MAX_SHEET_BYTES;
 use route::path::Trip;
 use search::entry;
 use search::query::Query;
@@ -24,7 +25,7 @@ pub fn print_one(p: &[u8], query: Query, room: Number) {
     if room.found {
         print_within(p, query, room.value as usize);
     } else {
-        print_within(p, query, 3072);
+        print_within(p, query, MAX_SHEET_BYTES);
     }
     io::write_all(1, b"\n");
 }
@@ -37,7 +38,7 @@ fn print_budget(p: &[u8], trip: Trip, pick: u64, order: u64, budget: u64) {
         order: order,
         budget: budget,
     };
-    print_within(p, query, 3072);
+    print_within(p, query, MAX_SHEET_BYTES);
 }
 
 // The answers with the budgets 1, 2, .. up to the last and then with 1,000,000.

@@ -1,4 +1,6 @@
 // What is printed of a case: the number that the check answers to a sheet, or the lowest setting of its route and the sheet written anew.
+use plan::bounds::MAX_RECORDS;
+use plan::bounds::MAX_STEPS;
 use route::modes::Lowest;
 use route::path::Route;
 use route::path::Trip;
@@ -7,6 +9,7 @@ use test_cases::plans::Plan;
 use test_cases::print::print_number;
 use test_cases::records::Bytes;
 ghost use Prim.Native.Nat.{_≤_, _<_};
+ghost use Rattle.plan.specs.Bounds.{maxSteps};
 ghost use Rattle.plan.specs.Reading.{Accepted};
 ghost use Rattle.route.specs.Routes.{costLimit};
 ghost use Rattle.route.specs.Values.{Known};
@@ -67,7 +70,7 @@ fn print_sheet(p: &[u8], trip: Trip, out: &[u8], n: usize) {
 
 // Writes a sheet into bytes that are 170, more than it takes.
 fn print_written(p: &[u8], trip: Trip, sheet: Sheet)
-    requires { ⌜ (sheet .route .count ≤ 255) × (sheet .cost < costLimit) ⌝ }
+    requires { ⌜ (sheet .route .count ≤ maxSteps) × (sheet .cost < costLimit) ⌝ }
 {
     let mut out = [170u8; 3100];
     let n = route::sheet::write(&mut out, sheet);
@@ -79,7 +82,7 @@ fn lowest_of(p: &[u8], r: Route) -> Lowest
     requires { ⌜ Accepted (now p) × Known (now p) r ⌝ }
 {
     let places = plan::named::named_places(p);
-    let mut clauses = [0u32; 2048];
+    let mut clauses = [0u32; MAX_RECORDS];
     route::clauses::decode(p, &places, &mut clauses);
     route::modes::lowest_setting(p, &clauses, route::masks::on_route(&places, r))
 }
@@ -111,7 +114,7 @@ fn print_setting(p: &[u8], trip: Trip, r: Route)
 
 // The same, where the belts are the plan's.
 fn print_belts(p: &[u8], trip: Trip, r: Route)
-    requires { ⌜ Accepted (now p) × (r .count ≤ 255) ⌝ }
+    requires { ⌜ Accepted (now p) × (r .count ≤ maxSteps) ⌝ }
 {
     if !route::path::are_belts(p, r) {
         io::write_all(1, b" no belts");
@@ -132,7 +135,7 @@ fn print_route(p: &[u8], trip: Trip, h: &[u8]) {
     }
     let sheet = route::sheet::read(h);
     let r = sheet.route;
-    if r.count <= 255 {
+    if r.count <= MAX_STEPS {
         print_belts(p, trip, r);
     }
 }

@@ -11,6 +11,9 @@
 use crate::answers;
 use crate::answers::Asked;
 use crate::sheets;
+use plan::bounds::FIELD_LIMIT;
+use plan::bounds::MAX_STEPS;
+use plan::bounds::RECORD_BYTES;
 use route::path::Trip;
 use test_cases::lines;
 use test_cases::plans;
@@ -19,6 +22,7 @@ use test_cases::plans::Plan;
 use test_cases::print::print_name;
 use test_cases::records;
 use test_cases::records::Bytes;
+use test_cases::records::CASE_BYTES;
 
 // What the lines so far say: the plan at hand, where it starts from, and what is asked of its cases.
 struct State {
@@ -29,14 +33,14 @@ struct State {
 
 // Writes a field of record 0, if the number fits.
 fn put_head(sheet: &mut Bytes, field: usize, value: u64) {
-    if value < 65536 {
+    if value < FIELD_LIMIT as u64 {
         records::put_field(sheet, 0, field, value as u16);
     }
 }
 
 // Writes the k-th step, if the belt fits.
 fn put_belt(sheet: &mut Bytes, k: usize, belt: u64) {
-    if belt < 65536 {
+    if belt < FIELD_LIMIT as u64 {
         sheets::put_step(sheet, k, belt as u16);
     }
 }
@@ -48,9 +52,9 @@ fn put_belts(sheet: &mut Bytes, text: &[u8], at: usize) -> usize {
     loop {
         let belt = lines::next_number(text, i);
         if !belt.found {
-            return 12 * k + 12;
+            return RECORD_BYTES * k + RECORD_BYTES;
         }
-        if k < 255 {
+        if k < MAX_STEPS {
             k += 1;
             put_belt(sheet, k, belt.value);
         }
@@ -63,7 +67,7 @@ fn case(state: State, text: &[u8], at: usize) {
     let asked = state.asked;
     let base = state.base;
     let plan = state.plan;
-    let mut sheet = [0u8; 24600];
+    let mut sheet = [0u8; CASE_BYTES];
     sheets::put_sheet(&mut sheet, base);
     let name_end = print_name(text, at);
     let s = lines::next_number(text, name_end);

@@ -1,4 +1,5 @@
 // The sheets that the cases start from, written field by field.
+use plan::bounds::MAX_STEPS;
 use test_cases::plans::Base;
 use test_cases::records::Bytes;
 use test_cases::records::put;
@@ -7,7 +8,7 @@ use test_cases::records::put_field;
 // Writes a step at record k of a sheet, behind those that it has.
 pub fn put_step(buf: &mut Bytes, k: usize, belt: u16) {
     if 0 < k {
-        if k < 256 {
+        if k <= MAX_STEPS {
             put_field(buf, k - 1, 1, k as u16);
             put(buf, k, [5, 0, belt, 0, 0, 0]);
         }

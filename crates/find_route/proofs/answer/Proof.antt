@@ -5,6 +5,7 @@ use Prim.Native.Nat.{ℕ, _≤_}
 use native.Mathlib.Omega.{arith}
 use lib.ListN.{length, drop, replicate, length-append}
 use lib.Seq.{length-take-le}
+use Rattle.plan.specs.Bounds.{maxSheetBytes}
 use Rattle.route.specs.Sheets.{sheetOf}
 use Rattle.search.specs.declared.entry.Reply.{Reply}
 use Rattle.search.specs.Answers.{Outcome, refused, route, nothing, spent, paused, replyTo, replyOf, outAfter, outcome, Told}
@@ -37,7 +38,7 @@ fits : (c : tie.After-numbers) → c .numbers .result .size ≤ length (c .befor
 fits c =
     let asked = c .before .before in
     let args = asked .before .before .before .before .args in
-    let blank : List ℕ = replicate 3072 0 in
+    let blank : List ℕ = replicate maxSheetBytes 0 in
     subst (λ (r : Reply). r .size ≤ length (asked .search .last .1 .1 .0)) (sym (c .numbers .ensures))
     (told-fits (replyOf (asked .search .result)) blank (asked .search .last .1 .1 .0) (outcome (requestOf (args .p .now) (args .query) blank))
     (asked .search .ensures))

@@ -5,6 +5,7 @@ use mathlib.Core.List.{List}
 use Prim.Native.Nat.{ℕ, _≤_}
 use native.Mathlib.Omega.{arith}
 use Rattle.route.specs.declared.sheet.Sheet.{Sheet}
+use Rattle.plan.specs.Bounds.{maxSteps}
 use Rattle.route.specs.Sheets.{inForm}
 use Rattle.route.specs.Values.{sheetIn}
 use Rattle.route.proofs.Readings.{form-is, few-belts}
@@ -24,10 +25,10 @@ returns c =
     let tested = c .before .before in
     read (tested .before .before .args .h .now) (sym (tested .in-form .ensures) ∙ c .before .if1 .taken) (c .read .ensures)
   where
-    read : (h : List ℕ) → inForm h ≡ true → {v : Sheet} → v ≡ sheetIn h → (v ≡ orBlank (inForm h) (sheetIn h)) × (v .route .count ≤ 255)
+    read : (h : List ℕ) → inForm h ≡ true → {v : Sheet} → v ≡ sheetIn h → (v ≡ orBlank (inForm h) (sheetIn h)) × (v .route .count ≤ maxSteps)
     read h form e = (
       e ∙ sym (ap (λ (t : Bool). orBlank t (sheetIn h)) form),
-      subst (λ (v : Sheet). v .route .count ≤ 255) (sym e) (few-belts h (form-is h form)),
+      subst (λ (v : Sheet). v .route .count ≤ maxSteps) (sym e) (few-belts h (form-is h form)),
     )
 
 blank-requires : tie.Need-blank-requires
@@ -38,7 +39,7 @@ returns-2 c =
     let tested = c .before .before in
     let h = tested .before .before .args .h .now in (
       c .blank .ensures ∙ sym (ap (λ (t : Bool). orBlank t (sheetIn h)) (sym (tested .in-form .ensures) ∙ c .before .if1 .left)),
-      subst (λ (v : Sheet). v .route .count ≤ 255) (sym (c .blank .ensures)) (omega arith),
+      subst (λ (v : Sheet). v .route .count ≤ maxSteps) (sym (c .blank .ensures)) (omega arith),
     )
 
 pub read-sheet-spec : {M : Type 1} → statement M

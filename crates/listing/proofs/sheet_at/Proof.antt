@@ -7,6 +7,7 @@ use lib.ListN.{length, take}
 use lib.Seq.{length-take-le}
 use borrow.Author.Tests.{le-leb, lt-leb}
 use Rattle.route.specs.declared.sheet.Sheet.{Sheet}
+use Rattle.plan.specs.Bounds.{maxSteps}
 use Rattle.listing.specs.Lines.{orBlank, readSheet}
 use borrow.Author.Needs.{needs}
 use Rattle.listing.proofs.sheet_at.Statement.{statement}
@@ -20,7 +21,7 @@ returns c =
     let args = c .before .before .before .args in (
       c .blank .ensures
           ∙ sym (ap (λ (t : Bool). orBlank t (readSheet (take (args .length) (args .out .now)))) (lt-leb (args .length) (length (args .out .now)) (c .before .if1 .taken))),
-      subst (λ (v : Sheet). v .route .count ≤ 255) (sym (c .blank .ensures)) (omega arith),
+      subst (λ (v : Sheet). v .route .count ≤ maxSteps) (sym (c .blank .ensures)) (omega arith),
     )
 
 slice-aggregate-read-sheet : tie.Need-slice-aggregate-read-sheet

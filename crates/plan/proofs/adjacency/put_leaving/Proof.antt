@@ -8,7 +8,7 @@ use native.Mathlib.Numerals.{add-one}
 use lib.ListN.{length, take, drop, set, length-map, length-set}
 use lib.Seq.{sets, sets-eq}
 use borrow.Author.Needs.{needs}
-use Rattle.plan.specs.Bounds.{maxRecords}
+use Rattle.plan.specs.Bounds.{maxRecords, fieldLimit}
 use Rattle.plan.specs.Plan.{Belt, planOf, beltAt, leaving}
 use Rattle.plan.specs.Reading.{IsBelt, nextBelt, beltsFrom}
 use Rattle.plan.specs.Adjacency.{arcOf}
@@ -70,7 +70,7 @@ free c =
 name-low : (c : tie.Then1 Inv-loop μ-loop) → c .before .before .loop .belt .0 < maxRecords
 name-low c = belt-low (c .before .before .before .before .before .before .pre .0) (c .before .before .loop .belt .0) (belt-is c) .2
 
-leads-low : (c : tie.After-leads-to Inv-loop μ-loop) → c .leads-to .result < 65536
+leads-low : (c : tie.After-leads-to Inv-loop μ-loop) → c .leads-to .result < fieldLimit
 leads-low c =
     let at = c .before .before .before in
     let known = at .before .before .before in
@@ -125,7 +125,7 @@ loop-again c =
     let leads = c .before .before .before .leads-to .ensures in (
       λ d. subst (IsBelt p) (sym q) (next-belt-is (start .pre .0) e (belt-is turn) (λ z. d (q ∙ z)) .1),
       omega (arith, loop .inv .1),
-      (λ i. sets (set (loop .arcs) (loop .count) (cost i * 4294967296 + (leads i * 65536 + e))) (add-one (loop .count) i) (map arcOf (beltsFrom p (c .next-belt .result .0))))
+      (λ i. sets (set (loop .arcs) (loop .count) (cost i * (fieldLimit * fieldLimit) + (leads i * fieldLimit + e))) (add-one (loop .count) i) (map arcOf (beltsFrom p (c .next-belt .result .0))))
           ∙ sym (ap (λ (es : List Belt). sets (loop .arcs) (loop .count) (map arcOf es)) all)
           ∙ loop .inv .2,
       length-set (loop .arcs) (loop .count) _ ∙ loop .inv .3,

@@ -6,12 +6,13 @@ use borrow.Author.Needs.{needs}
 use borrow.Author.Tests.{ne-eqb}
 use native.Mathlib.Omega.{arith}
 use lib.Dec.{eqb}
+use Rattle.plan.specs.Bounds.{fieldLimit}
 use Rattle.plan.proofs.table.zeros.Statement.{statement}
 use Rattle.plan.proofs.table.zeros.Tie as tie
 
-one-number : (a b : ℕ) → eqb (a * 65536 + b) 0 ≡ (eqb a 0 && eqb b 0)
-one-number zero b = let e : 0 * 65536 + b ≡ b = omega arith in ap (λ (n : ℕ). eqb n 0) e
-one-number (suc a) b = ne-eqb (suc a * 65536 + b) 0 (λ e. omega arith) ∙ sym (ap (λ t. t && eqb b 0) (ne-eqb (suc a) 0 (λ e. omega arith)))
+one-number : (a b : ℕ) → eqb (a * fieldLimit + b) 0 ≡ (eqb a 0 && eqb b 0)
+one-number zero b = let e : 0 * fieldLimit + b ≡ b = omega arith in ap (λ (n : ℕ). eqb n 0) e
+one-number (suc a) b = ne-eqb (suc a * fieldLimit + b) 0 (λ e. omega arith) ∙ sym (ap (λ t. t && eqb b 0) (ne-eqb (suc a) 0 (λ e. omega arith)))
 
 index-requires : tie.Need-index-requires
 index-requires c κs = search needs

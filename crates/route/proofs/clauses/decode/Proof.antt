@@ -5,6 +5,7 @@ use Prim.Native.Nat.{ℕ, _+_, _*_, _<_}
 use native.Mathlib.Omega.{arith}
 use borrow.Author.Needs.{needs}
 use lib.ListN.{length, set, length-set}
+use Rattle.plan.specs.Bounds.{fieldLimit, maxRecords}
 use Rattle.plan.specs.Reading.{IsRule, rulesFrom}
 use Rattle.plan.proofs.Reading.{records-more, rule-low}
 use Rattle.route.specs.Values.{clausesIn}
@@ -54,7 +55,7 @@ next-rule-requires : tie.Need-next-rule-requires Inv-loop μ-loop
 next-rule-requires c κs = (c .before .before .before .before .before .before .before .before .pre .0, rule-is (c .before))
 
 -- the parts of its entry fit
-parts-low : (c : tie.After-next-rule Inv-loop μ-loop) → (c .next-rule .result .0 < 2048) × (c .before .first-literal .result .0 < 2048)
+parts-low : (c : tie.After-next-rule Inv-loop μ-loop) → (c .next-rule .result .0 < maxRecords) × (c .before .first-literal .result .0 < maxRecords)
 parts-low c =
     let turn = c .before .before in
     let at = turn .before .before in
@@ -76,7 +77,7 @@ add-clauses : tie.Need-add-clauses Inv-loop μ-loop
 add-clauses c = let low = parts-low (c .before .before) in omega (arith, low .0, low .1)
 
 -- the place of its entry is low, and in the array
-place-low : (c : tie.Then1 Inv-loop μ-loop) → c .before .before .loop .rule .0 < 2048
+place-low : (c : tie.Then1 Inv-loop μ-loop) → c .before .before .loop .rule .0 < maxRecords
 place-low c = rule-low (c .before .before .before .before .before .before .before .pre .0) (c .before .before .loop .rule .0) (rule-is c) .2
 
 cast-clauses-4 : tie.Need-cast-clauses-4 Inv-loop μ-loop
@@ -98,7 +99,7 @@ put-literals-requires c κs =
     let turn = next .before .before in
     let pre = turn .before .before .before .before .before .before .before .pre in
     let loop = turn .before .before .loop in
-    let entry = next .next-rule .result .0 + 65536 * next .before .first-literal .result .0 in
+    let entry = next .next-rule .result .0 + fieldLimit * next .before .first-literal .result .0 in
     (pre .0, pre .1, rule-is turn, omega (arith, pre .3, same (turn .before .before), length-set (loop .clauses) (loop .rule .0) entry))
 
 loop-less : tie.Need-loop-less Inv-loop μ-loop

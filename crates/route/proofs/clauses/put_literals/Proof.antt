@@ -4,6 +4,7 @@ use Prim.Native.Nat.{ℕ, _<_}
 use native.Mathlib.Omega.{arith}
 use mathlib.Core.List.{List}
 use lib.ListN.{length}
+use Rattle.plan.specs.Bounds.{maxRecords}
 use Rattle.plan.specs.Plan.{literalAt}
 use Rattle.plan.specs.Reading.{IsLiteral, literalChain, literalsFrom}
 use Rattle.plan.proofs.Reading.{literal-low}
@@ -63,7 +64,7 @@ next-literal-requires c κs =
     (turn .before .before .before .before .before .before .pre .0, literal-is turn)
 
 -- and so is the next literal
-next-low : (c : tie.After-next-literal Inv-loop μ-loop) → c .next-literal .result .0 < 2048
+next-low : (c : tie.After-next-literal Inv-loop μ-loop) → c .next-literal .result .0 < maxRecords
 next-low c =
     let turn = c .before .before .before in
     let at = turn .before .before in
@@ -79,7 +80,7 @@ add-clauses : tie.Need-add-clauses Inv-loop μ-loop
 add-clauses c = omega (arith, next-low (c .before), code-low (c .before .before))
 
 -- the place of its entry is low, and in the array
-place-low : (c : tie.Then1 Inv-loop μ-loop) → c .before .before .loop .literal .0 < 2048
+place-low : (c : tie.Then1 Inv-loop μ-loop) → c .before .before .loop .literal .0 < maxRecords
 place-low c = literal-low (c .before .before .before .before .before .before .pre .0) (c .before .before .loop .literal .0) (literal-is c) .2
 
 cast-clauses-2 : tie.Need-cast-clauses-2 Inv-loop μ-loop

@@ -4,6 +4,7 @@ use Prim.Native.Nat.{ℕ, _-_, _+_, _≤_, _<_}
 use native.Mathlib.Omega.{arith}
 use borrow.Author.Needs.{needs}
 use lib.ListN.{length, getD, drop}
+use Rattle.plan.specs.Bounds.{maxRecords}
 use Rattle.plan.specs.Plan.{beltId, placeIn}
 use Rattle.route.specs.Values.{idsOf, withPlace, LowPlace, gatheredIn}
 use Rattle.route.proofs.Held.{places, ids-next, ids-end, ids-at}
@@ -34,7 +35,7 @@ element-copy-out-belt c = omega (arith, c .loop-test .taken, c .before .before .
 low : (c : tie.In-loop Inv-loop μ-loop) →
     let a = c .before .before .args in
     let e = getD (a .t2 .belts) (c .before .loop .k) (beltId 0) .0 in
-    (e < 2048) × LowPlace (placeIn (a .places .now) e)
+    (e < maxRecords) × LowPlace (placeIn (a .places .now) e)
 low c =
     let at = c .before in
     let start = at .before in

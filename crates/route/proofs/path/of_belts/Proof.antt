@@ -6,6 +6,7 @@ use native.Mathlib.Omega.{arith}
 use native.Mathlib.Numerals.{add-one}
 use lib.ListN.{length, getD, take, drop, set, drop-of-length-le}
 use lib.Seq.{length-take-le, drop-cons, getD-take, sets}
+use Rattle.plan.specs.Bounds.{maxSteps}
 use Rattle.plan.specs.Plan.{beltId}
 use Rattle.route.specs.Values.{packed}
 use Rattle.route.proofs.ByName.{packed-sets}
@@ -29,7 +30,7 @@ loop-holds : tie.Need-loop-holds Inv-loop μ-loop
 loop-holds c = packed-sets (first c) (omega (arith, many c, c .pre .0))
 
 -- there is one more
-low : (c : tie.In-loop Inv-loop μ-loop) → c .before .loop .k < 255
+low : (c : tie.In-loop Inv-loop μ-loop) → c .before .loop .k < maxSteps
 low c = omega (arith, c .loop-test .taken, c .before .before .pre .0)
 
 mul-t8 : tie.Need-mul-t8 Inv-loop μ-loop

@@ -7,6 +7,7 @@ use mathlib.Core.List.{List}
 use native.Mathlib.Omega.{arith}
 use lib.Count.{trailingZeros}
 use lib.ListN.{getD}
+use Rattle.plan.specs.Bounds.{junctionPlaces, maxNamed}
 use Rattle.plan.specs.Plan.{planOf, beltAt, named, beltId}
 use Rattle.plan.specs.Reading.{IsBelt}
 use Rattle.plan.proofs.Reading.{plan-sizes, named-few}
@@ -19,11 +20,11 @@ use Rattle.route.proofs.relax.by_required.Statement.{statement}
 use Rattle.route.proofs.relax.by_required.Tie as tie
 
 -- u is a junction, and there are at most 256
-below : (c : tie.Start) → c .args .u < 257
+below : (c : tie.Start) → c .args .u < junctionPlaces
 below c = omega (arith, c .pre .3, plan-sizes (c .pre .0) .1)
 
 -- there are at most 48 named belts
-place : (c : tie.Start) → trailingZeros 64 (c .args .hit) < 48
+place : (c : tie.Start) → trailingZeros 64 (c .args .hit) < maxNamed
 place c =
     let h = c .pre in
     omega (arith, lowest-place (h .0) (c .args .fixings) (c .args .u) (below c) (h .4) (h .5) (h .6), named-few (h .0))

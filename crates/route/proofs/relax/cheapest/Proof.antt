@@ -11,6 +11,7 @@ use borrow.Author.Tests.{not-true, not-false}
 use lib.ListN.{getD}
 use lib.Dec.{ltb}
 use Rattle.plan.specs.declared.read.BeltId.{BeltId}
+use Rattle.plan.specs.Bounds.{junctionPlaces, maxRecords}
 use Rattle.plan.specs.Plan.{Belt, planOf, leaving, named, placeIn, beltId}
 use Rattle.plan.specs.Adjacency.{arcHead, arcName}
 use Rattle.plan.specs.Reading.{Bytes}
@@ -37,7 +38,7 @@ abbrev μ-loop : tie.MeasureT-loop
 μ-loop p places ends arcs fixings ways nearest u best₀ belt₀ end i₀ best belt i = end - i
 
 -- u is a junction, and there are at most 256
-below : (c : tie.Start Inv-loop μ-loop) → c .args .u < 257
+below : (c : tie.Start Inv-loop μ-loop) → c .args .u < junctionPlaces
 below c = omega (arith, c .pre .3, plan-sizes (c .pre .0 .accepted) .1)
 
 mul-end : tie.Need-mul-end Inv-loop μ-loop
@@ -84,7 +85,7 @@ next : (c : tie.In-loop Inv-loop μ-loop) → let a = start c .args in let loop 
     Next (a .p .now) (a .arcs .now) (loop .i) (getD (a .ends .now) (a .u) 0) (Gives (a .p .now) (a .fixings) (costsIn (a .ways .now)) (a .nearest) (a .u) (loop .best) (loop .belt))
 next c = left-next (start c .pre .0 .accepted) (bytes c) (c .before .loop .inv) (c .loop-test .taken)
 
-low : (c : tie.In-loop Inv-loop μ-loop) → let arc = getD (start c .args .arcs .now) (c .before .loop .i) 0 in (arcHead arc < 257) × (arcName arc < 2048)
+low : (c : tie.In-loop Inv-loop μ-loop) → let arc = getD (start c .args .arcs .now) (c .before .loop .i) 0 in (arcHead arc < junctionPlaces) × (arcName arc < maxRecords)
 low c = arc-low (start c .pre .0 .accepted) (next c .arc)
 
 mul-arc : tie.Need-mul-arc Inv-loop μ-loop
@@ -129,7 +130,7 @@ loop-less c = search needs
 
 -- the sum over the belt
 sum : (c : tie.After-over Inv-loop μ-loop) → let turn = c .before .before .before .before in let ways = start turn .args .ways .now in
-    c .before .cost .result + getD ways (c .before .before .head .result) 0 / 2048 ≡ next turn .belt .cost + getD (costsIn ways) (next turn .belt .leads) 0
+    c .before .cost .result + getD ways (c .before .before .head .result) 0 / maxRecords ≡ next turn .belt .cost + getD (costsIn ways) (next turn .belt .leads) 0
 sum c =
     let turn = c .before .before .before .before in
     let arc = next turn .arc in

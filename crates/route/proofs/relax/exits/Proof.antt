@@ -2,6 +2,7 @@
 use mathlib.Core.Path.{sym, subst}
 use Prim.Native.Nat.{_+_, _-_, _≤_, _<_}
 use native.Mathlib.Omega.{arith}
+use Rattle.plan.specs.Bounds.{junctionPlaces}
 use Rattle.plan.proofs.Reading.{plan-sizes}
 use Rattle.route.proofs.Exits.{Filled, filled-start, filled-next, filled-end}
 use Rattle.route.proofs.relax.exits.Statement.{statement}
@@ -22,7 +23,7 @@ loop-holds c =
     (omega arith, subst (Filled (start .args .p .now) 1) (sym (start .pre .4)) (filled-start (start .pre .0)))
 
 -- the junction of a turn is one of at most 256
-below : (c : tie.In-loop Inv-loop μ-loop) → c .before .loop .u < 257
+below : (c : tie.In-loop Inv-loop μ-loop) → c .before .loop .u < junctionPlaces
 below c =
     let known = c .before .before in
     omega (arith, c .loop-test .taken, known .junctions .ensures, plan-sizes (known .before .before .before .pre .0) .1)

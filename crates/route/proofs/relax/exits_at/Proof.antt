@@ -6,6 +6,7 @@ use mathlib.Core.List.{List}
 use native.Mathlib.Omega.{arith}
 use borrow.Author.Needs.{needs}
 use lib.ListN.{getD}
+use Rattle.plan.specs.Bounds.{junctionPlaces}
 use Rattle.plan.specs.Plan.{Belt, planOf, namesOf, leaving, placeIn}
 use Rattle.plan.specs.Adjacency.{arcName}
 use Rattle.plan.specs.Reading.{Bytes}
@@ -26,7 +27,7 @@ abbrev μ-loop : tie.MeasureT-loop
 μ-loop p places ends arcs u mask₀ end i₀ mask i = end - i
 
 -- u is a junction, and there are at most 256
-below : (c : tie.Start Inv-loop μ-loop) → c .args .u < 257
+below : (c : tie.Start Inv-loop μ-loop) → c .args .u < junctionPlaces
 below c = omega (arith, c .pre .2, plan-sizes (c .pre .0 .accepted) .1)
 
 mul-end : tie.Need-mul-end Inv-loop μ-loop

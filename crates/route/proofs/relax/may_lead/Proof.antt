@@ -6,6 +6,7 @@ use mathlib.Core.List.{List}
 use native.Mathlib.Omega.{arith}
 use borrow.Author.Tests.{eqb-true, eqb-false}
 use lib.Bits.{bitAnd}
+use Rattle.plan.specs.Bounds.{junctionPlaces}
 use Rattle.plan.specs.Lists.{upto}
 use Rattle.plan.specs.Plan.{planOf}
 use Rattle.plan.proofs.Lists.{never}
@@ -21,7 +22,7 @@ use Rattle.route.proofs.relax.may_lead.Statement.{statement}
 use Rattle.route.proofs.relax.may_lead.Tie as tie
 
 -- t is a junction, of which there are at most 256
-top : (c : tie.Start) → c .args .trip .t ≤ 257
+top : (c : tie.Start) → c .args .trip .t ≤ junctionPlaces
 top c =
     let ends = ends-junctions (planOf (c .args .p .now)) (c .args .trip .s) (c .args .trip .t) (c .pre .2) in
     omega (arith, ends .3, plan-sizes (c .pre .0) .1)

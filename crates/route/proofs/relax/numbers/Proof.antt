@@ -8,6 +8,7 @@ use native.Mathlib.Nat.{eq-or-lt-of-le}
 use lib.ListN.{length, getD, set, length-set, length-map, length-replicate, List·getD-map}
 use lib.Seq.{getD-set-same, getD-set-other, ext-getD}
 use Rattle.plan.specs.declared.read.BeltId.{BeltId}
+use Rattle.plan.specs.Bounds.{maxNamed}
 use Rattle.plan.specs.Plan.{planOf, named, beltId, listed}
 use Rattle.plan.proofs.Places.{length-listed}
 use Rattle.plan.proofs.Reading.{named-few}
@@ -17,10 +18,10 @@ use Rattle.route.proofs.relax.numbers.Tie as tie
 
 -- the array has 48 places, and the numbers below k are stored
 record Stored (es : List BeltId) (k : ℕ) (ns : List ℕ) : Type 0 where
-  size : length ns ≡ 48
+  size : length ns ≡ maxNamed
   done : (j : ℕ) → j < k → getD ns j 0 ≡ getD es j (beltId 0) .0
 
-next : {es : List BeltId} {k : ℕ} {ns : List ℕ} → k < 48 → Stored es k ns → Stored es (k + 1) (set ns k (getD es k (beltId 0) .0))
+next : {es : List BeltId} {k : ℕ} {ns : List ℕ} → k < maxNamed → Stored es k ns → Stored es (k + 1) (set ns k (getD es k (beltId 0) .0))
 next {es} {k} {ns} l s = record {
   size = length-set ns k (getD es k (beltId 0) .0) ∙ s .size;
   done = λ j m. go j (eq-or-lt-of-le m);
@@ -38,10 +39,10 @@ abbrev Inv-loop : tie.InvT-loop
 Inv-loop p list belts₀ k₀ belts k = Stored (list .belts) k belts
 
 abbrev μ-loop : tie.MeasureT-loop
-μ-loop p list belts₀ k₀ belts k = 48 - k
+μ-loop p list belts₀ k₀ belts k = maxNamed - k
 
 loop-holds : tie.Need-loop-holds Inv-loop μ-loop
-loop-holds c = record { size = length-replicate {A = ℕ} 48 0; done = λ j l. absurd (omega arith) }
+loop-holds c = record { size = length-replicate {A = ℕ} maxNamed 0; done = λ j l. absurd (omega arith) }
 
 mul-belt : tie.Need-mul-belt Inv-loop μ-loop
 mul-belt c = omega (arith, c .loop-test .taken)

@@ -6,13 +6,14 @@ use native.Mathlib.Omega.{arith}
 use borrow.Author.Needs.{needs}
 use lib.Bits.{bitAnd}
 use lib.ListN.{getD}
+use Rattle.plan.specs.Bounds.{junctionPlaces}
 use Rattle.plan.proofs.Reading.{plan-sizes}
 use Rattle.route.proofs.Exits.{none-required}
 use Rattle.route.proofs.relax.way_from.Statement.{statement}
 use Rattle.route.proofs.relax.way_from.Tie as tie
 
 -- u is a junction, and there are at most 256
-below : (c : tie.Start) → c .args .u < 257
+below : (c : tie.Start) → c .args .u < junctionPlaces
 below c = omega (arith, c .pre .4, plan-sizes (c .pre .0 .accepted) .1)
 
 mul-hit : tie.Need-mul-hit

@@ -6,6 +6,7 @@ use native.Mathlib.Omega.{arith}
 use lib.ListN.{getD}
 use lib.Dec.{ltb}
 use borrow.Author.Needs.{needs}
+use Rattle.plan.specs.Bounds.{junctionPlaces}
 use Rattle.plan.specs.Plan.{Belt, beltAt}
 use Rattle.plan.proofs.Reading.{plan-sizes, belt-in, belt-ends}
 use Rattle.route.specs.Inner.{costsIn}
@@ -21,7 +22,7 @@ leads-to-requires c κs = search needs
 abbrev belt : tie.Start → Belt
 belt c = beltAt (c .args .p .now) (c .args .belt .0)
 
-low : (c : tie.Start) → belt c .leads < 257
+low : (c : tie.Start) → belt c .leads < junctionPlaces
 low c =
     let ok = c .pre .0 in
     omega (arith, belt-ends ok (belt c) (belt-in ok (c .args .belt .0) (c .pre .1)) .2, plan-sizes ok .1)

@@ -6,6 +6,7 @@ use Prim.Native.Nat.{ℕ, _*_, _+_, _-_, _/_, _≤_, _<_}
 use mathlib.Core.List.{List}
 use native.Mathlib.Omega.{arith}
 use lib.ListN.{getD, set}
+use Rattle.plan.specs.Bounds.{junctionPlaces, maxRecords}
 use Rattle.plan.specs.Plan.{Belt}
 use Rattle.plan.specs.Reading.{Bytes}
 use Rattle.plan.proofs.Reading.{plan-sizes}
@@ -30,7 +31,7 @@ abbrev μ-loop : tie.MeasureT-loop
 μ-loop p places belts ends arcs exits fixings bound s t ways₀ nearest₀ u₀ ways nearest u = u
 
 -- s and t are junctions, and there are at most 256
-inside : (c : tie.Start Inv-loop μ-loop) → (c .args .s < 257) × (c .args .t < 257)
+inside : (c : tie.Start Inv-loop μ-loop) → (c .args .s < junctionPlaces) × (c .args .t < junctionPlaces)
 inside c =
     let few = plan-sizes (c .pre .0 .accepted) .1 in
     (omega (arith, c .pre .3, c .pre .4), omega (arith, c .pre .4))
@@ -70,10 +71,10 @@ abbrev sub : (c : tie.In-loop Inv-loop μ-loop) → Subproblem
 sub c = subproblemIn (start-of c .args .p .now) (start-of c .args .fixings)
 
 -- the junction of a turn is below 257, as t is
-below : (c : tie.In-loop Inv-loop μ-loop) → c .before .loop .u - 1 < 257
+below : (c : tie.In-loop Inv-loop μ-loop) → c .before .loop .u - 1 < junctionPlaces
 below c = omega (arith, c .before .loop .inv .0 .inside, inside (start-of c) .1)
 
-low : (c : tie.After-way-from Inv-loop μ-loop) → (c .way-from .result .belt .0 < 2048) × (c .way-from .result .cost ≤ costLimit)
+low : (c : tie.After-way-from Inv-loop μ-loop) → (c .way-from .result .belt .0 < maxRecords) × (c .way-from .result .cost ≤ costLimit)
 low c =
     let turn = turn-of c in
     let start = start-of turn in
@@ -84,7 +85,7 @@ low c =
 stored : (c : tie.After-way-from Inv-loop μ-loop) (nearest : ℕ) → let turn = turn-of c in let start = start-of turn in let way = c .way-from .result in
     let ways = turn .before .loop .ways in let u = turn .before .loop .u - 1 in
     Passed (start .args .p .now) (sub turn) (start .args .t) u nearest (set (costsIn ways) u (way .cost)) (set (firstsIn ways) u (way .belt))
-    → let after = set ways u (way .cost * 2048 + way .belt .0) in
+    → let after = set ways u (way .cost * maxRecords + way .belt .0) in
     Done (start .args .p .now) (sub turn) (start .args .t) u nearest after × Spared (start .args .s) (start .args .t) after
 stored c nearest done =
     let turn = turn-of c in
@@ -159,7 +160,7 @@ element-copy-out-cost c = inside (c .before .before .before .before) .0
 abbrev way : tie.After-loop Inv-loop μ-loop → Option (List Belt)
 way c = let args = c .before .before .before .before .args in wayIn (args .p .now) (args .fixings) (args .t) (args .s)
 
-priced : (c : tie.After-loop Inv-loop μ-loop) → getD (c .before .loop .ways) (c .before .before .before .before .args .s) 0 / 2048 ≡ wayCost (way c)
+priced : (c : tie.After-loop Inv-loop μ-loop) → getD (c .before .loop .ways) (c .before .before .before .before .args .s) 0 / maxRecords ≡ wayCost (way c)
 priced c =
     let start = c .before .before .before .before in
     sym (cost-at (c .before .loop .ways) (start .args .s)) ∙ c .before .loop .inv .0 .priced (start .args .s) (c .loop-test .left) (start .pre .3)

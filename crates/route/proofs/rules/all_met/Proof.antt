@@ -5,6 +5,7 @@ use Prim.Native.Nat.{ℕ, _/_, _%_, _<_}
 use native.Mathlib.Omega.{arith}
 use lib.ListN.{length, getD}
 use Rattle.plan.specs.Records.{records}
+use Rattle.plan.specs.Bounds.{fieldLimit, maxRecords}
 use Rattle.plan.specs.Plan.{literalAt}
 use Rattle.plan.specs.Reading.{IsRule, IsLiteral, nextRule, firstLiteral, nextLiteral, rulesFrom, literalsFrom}
 use Rattle.plan.proofs.Reading.{records-more, rule-low, literal-low}
@@ -51,7 +52,7 @@ rule-is : (c : tie.In-rules Inv-loop μ-loop Inv-rules μ-rules) → IsRule (c .
 rule-is c = c .before .rules .inv .0 (c .rules-test .taken)
 
 rule-small : (c : tie.In-rules Inv-loop μ-loop Inv-rules μ-rules)
-    → (c .before .rules .next < records (c .before .before .before .before .before .args .p .now)) × (c .before .rules .next < 2048)
+    → (c .before .rules .next < records (c .before .before .before .before .before .args .p .now)) × (c .before .rules .next < maxRecords)
 rule-small c = let low = rule-low (c .before .before .before .before .before .pre .0) (c .before .rules .next) (rule-is c) in (low .1, low .2)
 
 cast-rule : tie.Need-cast-rule Inv-loop μ-loop Inv-rules μ-rules
@@ -69,7 +70,7 @@ shared-slice-read-rule c =
 parts : (c : tie.In-rules Inv-loop μ-loop Inv-rules μ-rules) →
     let a = c .before .before .before .before .before .args in
     let r = c .before .rules .next in
-    (getD (a .clauses .now) r 0 % 65536 ≡ nextRule (a .p .now) r) × (getD (a .clauses .now) r 0 / 65536 ≡ firstLiteral (a .p .now) r)
+    (getD (a .clauses .now) r 0 % fieldLimit ≡ nextRule (a .p .now) r) × (getD (a .clauses .now) r 0 / fieldLimit ≡ firstLiteral (a .p .now) r)
 parts c =
     let start = c .before .before .before .before .before in
     rule-parts (start .pre .0) (start .pre .1) (c .before .rules .next) (rule-is c)
@@ -89,7 +90,7 @@ literal-is c = c .before .loop .inv .0 (c .loop-test .taken)
 
 literal-small : (c : tie.In-loop Inv-loop μ-loop Inv-rules μ-rules) →
     let p = c .before .before .before .before .before .before .before .before .args .p .now in
-    (c .before .loop .literal < records p) × (c .before .loop .literal < 2048)
+    (c .before .loop .literal < records p) × (c .before .loop .literal < maxRecords)
 literal-small c =
     let low = literal-low (c .before .before .before .before .before .before .before .before .pre .0) (c .before .loop .literal) (literal-is c) in
     (low .1, low .2)
@@ -109,8 +110,8 @@ shared-slice-read-entry c =
 halves : (c : tie.In-loop Inv-loop μ-loop Inv-rules μ-rules) →
     let a = c .before .before .before .before .before .before .before .before .args in
     let l = c .before .loop .literal in
-    (getD (a .clauses .now) l 0 % 65536 ≡ nextLiteral (a .p .now) l)
-    × (getD (a .clauses .now) l 0 / 65536 ≡ codeIn (namedPlaces (a .p .now)) (literalAt (a .p .now) l))
+    (getD (a .clauses .now) l 0 % fieldLimit ≡ nextLiteral (a .p .now) l)
+    × (getD (a .clauses .now) l 0 / fieldLimit ≡ codeIn (namedPlaces (a .p .now)) (literalAt (a .p .now) l))
 halves c =
     let start = c .before .before .before .before .before .before .before .before in
     literal-parts (start .pre .0) (start .pre .1) (c .before .loop .literal) (literal-is c)

@@ -3,6 +3,7 @@ use mathlib.Core.Path.{_≡_, refl, sym, ap, _∙_, subst}
 use Prim.Native.Nat.{ℕ}
 use mathlib.Core.List.{List}
 use borrow.Author.Needs.{needs}
+use Rattle.plan.specs.Bounds.{maxRecords}
 use Rattle.plan.specs.Plan.{planOf}
 use Rattle.plan.proofs.Arcs.{records-few}
 use Rattle.route.specs.Permission.{allMet}
@@ -53,7 +54,7 @@ all-met-requires c κs =
     let route = start .args .route in
     let low = known-low (start .pre .0) route (start .pre .1) in (
       start .pre .0,
-      clauses-lent 2048 (records-few (start .pre .0) .0) (decoded .decode .ensures),
+      clauses-lent maxRecords (records-few (start .pre .0) .0) (decoded .decode .ensures),
       subst (OfNamed (start .args .p .now)) (sym (masked c)) (mask-named (start .pre .0) (idsOf route) low),
     )
 

@@ -3,6 +3,7 @@ use mathlib.Core.Path.{_≡_, _∙_, ap}
 use Prim.Native.Nat.{ℕ, _-_, _≤_, _<_}
 use native.Mathlib.Omega.{arith}
 use lib.ListN.{length}
+use Rattle.plan.specs.Bounds.{maxSteps}
 use Rattle.plan.specs.Plan.{beltId}
 use Rattle.route.specs.Sheets.{stepsFrom}
 use Rattle.plan.specs.Records.{placed}
@@ -23,7 +24,7 @@ loop-holds c =
     (omega arith, no-steps (start .args .out .now) (omega (arith, start .pre .1)))
 
 -- owning a route tells that its array has 255 places
-full : (c : tie.Start Inv-loop μ-loop) → length (c .args .route .belts) ≡ 255
+full : (c : tie.Start Inv-loop μ-loop) → length (c .args .route .belts) ≡ maxSteps
 full c = places (c .args .route) (c .good .1 .0 .1 .1 .1 .0 .1 .0 .1)
 
 -- the buffer is as long as it was
@@ -36,7 +37,7 @@ same c =
     (omega (arith, c .loop .inv .0, start .pre .1))
 
 -- a belt of the route is in the array
-below : (c : tie.In-loop Inv-loop μ-loop) → c .before .loop .k < 255
+below : (c : tie.In-loop Inv-loop μ-loop) → c .before .loop .k < maxSteps
 below c = omega (arith, c .loop-test .taken, c .before .before .before .before .pre .0)
 
 mul-belt : tie.Need-mul-belt Inv-loop μ-loop

@@ -5,6 +5,7 @@ use Prim.Native.Nat.{_+_, _*_, _-_, _≤_, _<_}
 use native.Mathlib.Omega.{arith}
 use lib.ListN.{length}
 use lib.Seq.{sets}
+use Rattle.plan.specs.Bounds.{maxSteps, recordBytes}
 use Rattle.route.specs.Sheets.{steps, beltsOn}
 use Rattle.route.specs.Values.{packed}
 use Rattle.route.proofs.Readings.{form-is, length-belts, few-belts}
@@ -27,7 +28,7 @@ loop-holds c = let h = c .before .args .h .now in packed-sets (beltsOn h) (few-b
 
 -- a step of the sheet is there, and so is its place in the array
 room : (c : tie.In-loop Inv-loop μ-loop)
-    → (12 * (c .before .loop .k + 1) + 12 ≤ length (c .before .before .before .args .h .now)) × (c .before .loop .k < 255)
+    → (recordBytes * (c .before .loop .k + 1) + recordBytes ≤ length (c .before .before .before .args .h .now)) × (c .before .loop .k < maxSteps)
 room c =
     let start = c .before .before .before in
     let s = form-is (start .args .h .now) (start .pre) in

@@ -3,6 +3,7 @@ use mathlib.Core.Path.{_≡_}
 use native.Mathlib.Omega.{arith}
 use lib.ListN.{length}
 use borrow.Author.Needs.{needs}
+use Rattle.plan.specs.Bounds.{maxSteps}
 use Rattle.route.specs.Values.{idsOf}
 use Rattle.route.proofs.Held.{places, length-first}
 use Rattle.route.proofs.Stores.{written}
@@ -25,7 +26,7 @@ same-length : tie.Need-same-length
 same-length c = search needs
 
 -- owning a sheet tells that its route's array has 255 places
-full : (c : tie.Start) → length (c .args .sheet .route .belts) ≡ 255
+full : (c : tie.Start) → length (c .args .sheet .route .belts) ≡ maxSteps
 full c = places (c .args .sheet .route) (c .good .1 .0 .1 .1 .0 .1 .1 .1 .0 .1 .0 .1)
 
 returns : tie.Need-returns

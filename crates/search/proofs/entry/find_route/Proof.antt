@@ -3,6 +3,7 @@ use mathlib.Core.Path.{refl}
 use Prim.Native.Nat.{_≤_}
 use native.Mathlib.Omega.{arith}
 use borrow.Author.Needs.{needs}
+use Rattle.plan.specs.Bounds.{maxRecords}
 use Rattle.plan.specs.Records.{records}
 use Rattle.plan.proofs.Arcs.{arcs-lent, records-few}
 use Rattle.route.proofs.Entries.{clauses-lent}
@@ -88,7 +89,7 @@ find-over-requires-2 c κs =
     let start = begun made in
     let list = made .before .before .named-belts .ensures in
     let fits = records-few (start .pre .0) .0 in
-    (start .pre .0, start .pre .1, start .pre .2, list .0, list .1, made .places-among .ensures, side .decode3 .ensures .0, arcs-lent (start .pre .0) 2048 fits (side .decode3 .ensures .1), clauses-lent 2048 fits (ruled .decode4 .ensures))
+    (start .pre .0, start .pre .1, start .pre .2, list .0, list .1, made .places-among .ensures, side .decode3 .ensures .0, arcs-lent (start .pre .0) maxRecords fits (side .decode3 .ensures .1), clauses-lent maxRecords fits (ruled .decode4 .ensures))
 
 same-length-2 : tie.Need-same-length-2
 same-length-2 c = search needs

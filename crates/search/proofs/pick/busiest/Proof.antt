@@ -8,6 +8,7 @@ use native.Mathlib.Omega.{arith}
 use borrow.Author.Needs.{needs}
 use lib.Bits.{bitOr}
 use Rattle.plan.specs.declared.named.Place.the-variants.{At}
+use Rattle.plan.specs.Bounds.{maxNamed}
 use Rattle.plan.specs.Lists.{keep, upto}
 use Rattle.plan.proofs.Counts.{keep-first, keep-rest, keep-done}
 use Rattle.route.specs.declared.relax.Fixings.{Fixings}
@@ -60,7 +61,7 @@ sub-k : tie.Need-sub-k Inv-loop μ-loop
 sub-k c = search needs
 
 -- the place of a turn is one of 48
-below : (c : tie.In-loop Inv-loop μ-loop) → c .before .loop .k - 1 < 48
+below : (c : tie.In-loop Inv-loop μ-loop) → c .before .loop .k - 1 < maxNamed
 below c = omega (arith, c .loop-test .taken, c .before .loop .inv .0, c .before .before .before .pre)
 
 has-requires : tie.Need-has-requires Inv-loop μ-loop

@@ -6,6 +6,7 @@ use Prim.Native.Nat.{ℕ, _<_}
 use native.Mathlib.Omega.{arith}
 use borrow.Author.Needs.{needs}
 use lib.ListN.{length}
+use Rattle.plan.specs.Bounds.{maxRecords}
 use Rattle.plan.specs.Reading.{literalsFrom}
 use Rattle.route.specs.Values.{withPlace, LowPlace, gatheredIn}
 use Rattle.route.proofs.Fixed.{place-low, looked-up}
@@ -37,7 +38,7 @@ enum-known-content : tie.Need-enum-known-content Inv-loop μ-loop
 enum-known-content c = search needs
 
 -- the belt of a literal can be looked up
-low : (c : tie.After-content Inv-loop μ-loop) → c .content .given .0 .0 .0 < 2048
+low : (c : tie.After-content Inv-loop μ-loop) → c .content .given .0 .0 .0 < maxRecords
 low c =
     let said = c .before .before in
     let at = said .before .before .before in

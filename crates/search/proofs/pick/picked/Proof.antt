@@ -6,6 +6,7 @@ use mathlib.Core.List.{head?}
 use native.Mathlib.Omega.{arith}
 use lib.ListN.{length}
 use Rattle.plan.specs.declared.named.Place.the-variants.{At}
+use Rattle.plan.specs.Bounds.{maxNamed}
 use Rattle.plan.specs.Plan.{planOf, named}
 use Rattle.plan.proofs.Reading.{named-few}
 use Rattle.route.specs.Permission.{find, otherwise}
@@ -21,7 +22,7 @@ use Rattle.search.proofs.pick.picked.Tie as tie
 size : (c : tie.Start) → c .args .counts .named ≡ length (named (planOf (c .args .p .now)))
 size c = ap (λ (v : Counts). v .named) (c .pre .1)
 
-few : (c : tie.Start) → c .args .counts .named ≤ 48
+few : (c : tie.Start) → c .args .counts .named ≤ maxNamed
 few c = omega (arith, size c, named-few (c .pre .0))
 
 lowest-requires : tie.Need-lowest-requires

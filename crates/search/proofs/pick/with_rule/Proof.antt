@@ -6,6 +6,7 @@ use mathlib.Core.List.{List}
 use native.Mathlib.Omega.{arith}
 use borrow.Author.Needs.{needs}
 use lib.ListN.{getD, set}
+use Rattle.plan.specs.Bounds.{maxNamed}
 use Rattle.search.specs.Inner.{withRule}
 use Rattle.search.proofs.Counting.{with-none, with-same, with-next, with-now}
 use Rattle.search.proofs.pick.with_rule.Statement.{statement}
@@ -22,7 +23,7 @@ loop-holds : tie.Need-loop-holds Inv-loop μ-loop
 loop-holds c = (omega arith, with-none (c .args .mask) (c .args .rules) (c .good .0 .1 .0 .1))
 
 -- the place of a turn is one of 48
-below : (c : tie.In-loop Inv-loop μ-loop) → c .before .loop .k < 48
+below : (c : tie.In-loop Inv-loop μ-loop) → c .before .loop .k < maxNamed
 below c = omega (arith, c .loop-test .taken, c .before .before .pre .0)
 
 has-requires : tie.Need-has-requires Inv-loop μ-loop

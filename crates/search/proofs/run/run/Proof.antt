@@ -6,6 +6,7 @@ use lib.ListN.{length, replicate}
 use borrow.Author.Needs.{needs}
 use Rattle.search.specs.declared.state.Ending.{Ending}
 use Rattle.search.specs.declared.state.Ending.the-variants.{GoesOn, Found, Nothing, Spent}
+use Rattle.plan.specs.Bounds.{junctionPlaces, maxSteps}
 use Rattle.search.specs.Values.{boundIn}
 use Rattle.search.proofs.Bounds.{kept-in-size}
 use Rattle.search.proofs.Opening.{Running, running-first, Handed, left, handed, fewer}
@@ -14,7 +15,7 @@ use Rattle.search.proofs.run.run.Tie as tie
 
 abbrev Inv-loop : tie.InvT-loop
 Inv-loop p places belts ends arcs exits clauses counts query ways₀ kept₀ stepped₀ ways kept stepped =
-    Handed p query stepped (stepped .ending) × (stepped .bound ≡ boundIn p (stepped .search)) × (ways ≡ replicate 257 0) × (length kept ≡ 255)
+    Handed p query stepped (stepped .ending) × (stepped .bound ≡ boundIn p (stepped .search)) × (ways ≡ replicate junctionPlaces 0) × (length kept ≡ maxSteps)
 
 abbrev μ-loop : tie.MeasureT-loop
 μ-loop p places belts ends arcs exits clauses counts query ways₀ kept₀ stepped₀ ways kept stepped = left query stepped (stepped .ending)

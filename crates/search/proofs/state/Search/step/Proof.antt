@@ -10,6 +10,7 @@ use lib.Dec.{eqb}
 use native.Mathlib.Omega.{arith}
 use borrow.Author.Needs.{needs}
 use borrow.Author.Tests.{eqb-true, eqb-false, eq-eqb, ne-eqb}
+use Rattle.plan.specs.Bounds.{maxSteps}
 use Rattle.plan.specs.Plan.{Belt, planOf}
 use Rattle.plan.specs.Reading.{Bytes}
 use Rattle.plan.proofs.Lists.{never}
@@ -29,7 +30,7 @@ use Rattle.search.specs.declared.state.Judged.{Judged}
 use Rattle.search.specs.declared.state.Judged.the-variants.{Best}
 use Rattle.search.specs.Search.{considered}
 use Rattle.search.specs.Answers.{problemIn}
-use Rattle.search.specs.Values.{noFixings, stateIn, endingIn, turnIn, boundIn, Valid, stepIn, newestOf, relaxedIn, keptBy, keptIn}
+use Rattle.search.specs.Values.{noFixings, stateIn, endingIn, turnIn, boundIn, Valid, stepIn, newestOf, relaxedIn, keptBy, keptIn, maxWaiting}
 use Rattle.search.specs.Inner.{endedAs, heldAs, betterIn, judgedIn}
 use Rattle.search.proofs.Holding.{places, settledTo, Room, Taken, Settles, popped, count-few, popped-taken}
 use Rattle.search.proofs.Opening.{OnRoute, answered, judged-same, judged-settles, step-empty, step-spent, step-goes}
@@ -74,7 +75,7 @@ abbrev now : tie.Else2 → Search
 now c = start c .args .self
 
 -- the newest is one of 49
-below : (c : tie.Else2) → now c .count - 1 < 49
+below : (c : tie.Else2) → now c .count - 1 < maxWaiting
 below c = omega (arith, count-few (start c .pre .0 .accepted) (start c .pre .1))
 
 mul-fixings : tie.Need-mul-fixings
@@ -148,13 +149,13 @@ told c =
 abbrev holds : tie.After-relaxed-route → List ℕ
 holds c = let goes = opened c in keptOf (atMost (start goes .args .bound) (answer goes)) (start goes .args .kept .now)
 
-holds-size : (c : tie.After-relaxed-route) → length (holds c) ≡ 255
+holds-size : (c : tie.After-relaxed-route) → length (holds c) ≡ maxSteps
 holds-size c = let from = start (opened c) in kept-size (atMost (from .args .bound) (answer (opened c))) (from .args .kept .now) ∙ from .pre .5
 
 abbrev Is-held : tie.After-relaxed-route → Type 0
 Is-held c = let goes = opened c in Held (start goes .args .p .now) (start goes .args .bound) (answer goes) (c .relaxed-route .result)
 
-few : (c : tie.After-relaxed-route) → Is-held c → c .relaxed-route .result .count ≤ 255
+few : (c : tie.After-relaxed-route) → Is-held c → c .relaxed-route .result .count ≤ maxSteps
 few c held =
     let goes = opened c in
     let ready = start goes .pre .0 in
@@ -321,7 +322,7 @@ of-belts-requires-2 c κs =
     (few asked (best-held judged (c .before .enum-told2 .given .1)), ap length (asked .relaxed-route .ensures .2) ∙ holds-size asked)
 
 -- there is room for both children
-room : (c : tie.After-judged) → (now (goes (c .before .before)) .count - 1 ≤ 47) × (c .judged .given .0 .0 < 64)
+room : (c : tie.After-judged) → (now (goes (c .before .before)) .count - 1 ≤ maxWaiting - 2) × (c .judged .given .0 .0 < 64)
 room c = subst (Room (popped (now (goes (c .before .before))))) (c .judged .given .1) (settles (c .before .before) .room)
 
 child-requires : tie.Need-child-requires
