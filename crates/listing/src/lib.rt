@@ -83,14 +83,14 @@ fn read_sheet(h: &[u8]) -> Sheet
     blank()
 }
 
-// What the first `length` bytes say, if there are so many.
-fn sheet_at(out: &[u8], length: usize) -> Sheet
-    ensures { λ v. ⌜ (v ≡ sheetAt (now (out .entry)) length) × (v .route .count ≤ maxSteps) ⌝ }
+// What the first `size` bytes say, if there are so many.
+fn sheet_at(out: &[u8], size: usize) -> Sheet
+    ensures { λ v. ⌜ (v ≡ sheetAt (now (out .entry)) size) × (v .route .count ≤ maxSteps) ⌝ }
 {
-    if out.len() < length {
+    if out.len() < size {
         return blank();
     }
-    read_sheet(&out[..length])
+    read_sheet(&out[..size])
 }
 
 // The values of an answer. A route's sheet stands at the start of `out`.

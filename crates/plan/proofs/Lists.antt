@@ -237,7 +237,7 @@ pub length-run : (lo n : ℕ) → length (run lo n) ≡ n
 length-run lo zero = refl
 length-run lo (suc n) = ap suc (length-run (suc lo) n)
 
--- a run backward into two runs
+-- a run is cut into two runs
 pub run-split : (i m n : ℕ) → run i (m + n) ≡ run i m ++ run (i + m) n
 run-split i zero n =
     let e : 0 + n ≡ n = omega arith in

@@ -68,7 +68,7 @@ count-joined f g (x ∷ xs) = omega (arith, count-append f (g x) (joined g xs), 
 
 -- ---- the numbers of a range
 
--- a range backward into two at any number in it
+-- a range is cut in two at any number in it
 upto-split : (lo mid hi : ℕ) → lo ≤ mid → mid ≤ hi → upto lo hi ≡ upto lo mid ++ upto mid hi
 upto-split lo mid hi a z =
     let e : hi - lo ≡ (mid - lo) + (hi - mid) = omega arith in

@@ -1,11 +1,11 @@
--- The belts of a plan side by side, by the junction that they leave: what the search reads over and over, decoded once. Nothing is said here of
--- bytes.
+-- The adjacency array of a plan: its belts grouped by the junction that they leave, decoded once for a search that reads them many times.
+-- Nothing is said here of bytes.
 --
 --   arcOf e         a belt in one number: its cost, where it leads, and its name; arcCost, arcHead, arcName: its parts
 --   inOrder p u     the belts that leave junctions 1 to u: junction by junction, those of each in rising index
 --   arcsIn n p      all belts in this order, as an array of n such numbers, the rest of it 0
---   endsOf p        how many belts leave junctions 1 to u, for each u from 0 on, as an array of maxJunctions + 1: the belts of junction u stand in arcsIn from
---                   place (endsOf u - 1) on and before place (endsOf u); the rest of it is 0
+--   endsOf p        how many belts leave junctions 1 to u, for each u from 0 on, as an array of junctionPlaces: the belts of junction u stand in
+--                   arcsIn from offset endsOf p [u - 1] on and before offset endsOf p [u]; the rest of it is 0
 --
 -- Assumes nothing.
 use Prim.Native.Nat.{ℕ, zero, suc, _+_, _*_, _-_, _/_, _%_}

@@ -1,4 +1,4 @@
-// The belts of an accepted plan side by side, by the junction that they leave, decoded once for a search that reads them over and over.
+// The adjacency array of an accepted plan: its belts grouped by the junction that they leave, decoded once for a search that reads them many times.
 use crate::bounds::FIELD_LIMIT;
 use crate::bounds::JUNCTION_PLACES;
 use crate::read;
@@ -38,7 +38,7 @@ pub fn name(arc: u64) -> BeltId
     BeltId((arc % HEAD_UNIT) as u16)
 }
 
-// Puts the belts that leave junction u behind the first `from` arcs, and answers how many there are then.
+// Appends the belts that leave junction u to the first `from` arcs, and answers how many arcs there are then.
 fn put_leaving(p: &[u8], u: usize, from: usize, arcs: &mut [u64]) -> usize
     requires { ⌜ Accepted (now p)
         × (1 ≤ u)
@@ -58,8 +58,8 @@ fn put_leaving(p: &[u8], u: usize, from: usize, arcs: &mut [u64]) -> usize
     count
 }
 
-// Puts the belts of an accepted plan side by side into `arcs`, which are all 0 before and as many as the plan has records, or more, and answers where
-// those of each junction end: the belts that leave junction u are the arcs from place ends[u - 1] on and before place ends[u]. Each belt is read once.
+// Fills `arcs` with the belts of an accepted plan, grouped by junction. It is all 0 before, and has a place for each record or more. Answers the end
+// offset of each group: the belts that leave junction u are the arcs from offset ends[u - 1] on and before offset ends[u]. Each belt is read once.
 pub fn decode(p: &[u8], arcs: &mut [u64]) -> [u16; JUNCTION_PLACES]
     requires { ⌜ Accepted (now p)
         × (now arcs ≡ replicate (length (now arcs)) 0)

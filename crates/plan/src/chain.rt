@@ -80,8 +80,8 @@ fn follow_two(p: &[u8], seen: &mut [u8], n: usize, r: usize, t: Target, u: Targe
     follow_one(p, seen, n, r, u)
 }
 
-// Whether a chain index of record r is wrong; marks the records that they lead to. Each arm has the chain fields of its row of the table `rows`:
-// to look them up by the kind made a check slower by a fifth or more.
+// Whether a chain index of record r is wrong; marks the records that they lead to. Each arm repeats the chain fields of its row of the table `rows`:
+// looking them up by the kind made a check slower by a fifth or more.
 fn follow_record(p: &[u8], seen: &mut [u8], n: usize, r: usize) -> bool
     requires { ⌜ (n ≡ records (now p))
         × (recordBytes * n ≤ length (now p))
@@ -116,8 +116,8 @@ fn follow_all(p: &[u8], seen: &mut [u8], n: usize) -> bool
     false
 }
 
-// Whether a record from lo on is reached twice or never, by its mark. The loop does not return early, so that many marks can be tested
-// at a time.
+// Whether a record from lo on is reached twice or never, by its mark. The loop does not return early, so that the compiler can test many marks at a
+// time.
 fn unmet(seen: &[u8], lo: usize, n: usize) -> bool
     requires { ⌜ n ≤ length (now seen) ⌝ }
     ensures { λ v. ⌜ v ≡ any (λ r. not (markedOnce (now (seen .entry)) r)) (upto lo n) ⌝ }

@@ -46,8 +46,8 @@ pub fn wrong_header(p: &[u8]) -> bool
     record::field(p, 0, 4) <= junctions
 }
 
-// Whether record r is of a kind that may stand at its place, and its unused and ranged fields are as that kind wants them. Each arm names its
-// kind, so that only the tests of this kind are left of `table::fits` there.
+// Whether record r is of a kind that may stand at its index, and its unused and ranged fields are as that kind wants them. Each arm passes its kind
+// as a constant, so that the compiler keeps only the tests of this kind of `table::fits`.
 fn right_record(p: &[u8], junctions: u16, r: usize) -> bool
     requires { ⌜ (junctions ≡ field (now p) 0 1)
         × (recordBytes * r + recordBytes ≤ length (now p)) ⌝ }

@@ -48,8 +48,8 @@ pub fn named_belts(p: &[u8]) -> Named
     }
 }
 
-// Puts the places of all belts among the named belts of an accepted plan, which are lent as `named_belts` answers them, into an array that is all 0
-// before, for `place_of`.
+// Fills the array in which `place_of` looks places up: for each belt its place among the named belts of an accepted plan. `list` is what
+// `named_belts` answers; the array is all 0 before.
 pub fn places_among(p: &[u8], list: Named, places: &mut [u8; MAX_RECORDS])
     requires { ⌜ Accepted (now p)
         × (list .count ≡ length (named (planOf (now p))))
@@ -75,7 +75,7 @@ pub fn named_places(p: &[u8]) -> [u8; MAX_RECORDS]
     places
 }
 
-// The place of a belt, out of the array of all places.
+// Looks up the place of a belt in the array that `named_places` makes.
 pub fn place_of(places: &[u8], belt: BeltId) -> Place
     requires { ⌜ belt .0 < length (now places) ⌝ }
     ensures { λ v. ⌜ v ≡ placeIn (now (places .entry)) (belt .0) ⌝ }

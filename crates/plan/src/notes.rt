@@ -41,7 +41,7 @@ pub fn note_named(p: &[u8], marks: &mut [u8])
     }
 }
 
-// How many of the first n records are marked. The count has 16 bits, so that many marks can be counted at a time.
+// How many of the first n records are marked. The count has 16 bits, so that the compiler can count many marks at a time.
 fn count_marks(marks: &[u8], n: usize) -> u16
     requires { ⌜ (n ≤ length (now marks))
         × (n < 65536) ⌝ }

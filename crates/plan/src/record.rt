@@ -62,7 +62,7 @@ pub fn records(p: &[u8]) -> usize
     index(p, 0, 4)
 }
 
-// Writes a field at place `at`, high byte first.
+// Writes a field at offset `at`, high byte first.
 pub fn put_field(out: &mut [u8], at: usize, f: u16)
     requires { ⌜ at + 2 ≤ length (now out) ⌝ }
     ensures { λ _. ⌜ now (out .exit) ≡ placed (now (out .entry)) at (fieldBytes f) ⌝ }

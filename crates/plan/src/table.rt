@@ -1,5 +1,5 @@
-// What each kind of record holds in its unused and ranged fields: the rows of the table `rows` of specs/Records.antt, an arm for each kind: a
-// loop over a row that is looked up would take most of a check's time. The rows' chain indices are followed in chain.rt.
+// The unused and ranged fields of each kind of record: the table `rows` of specs/Records.antt as a `match` with an arm for each kind. A loop over a
+// row that is looked up would take most of the time of a check. The chain indices of the rows are followed in chain.rt.
 use crate::bounds::FIELD_LIMIT;
 use crate::bounds::MAX_JUNCTIONS;
 use crate::bounds::MAX_MODES;
@@ -37,7 +37,7 @@ fn ranged(p: &[u8], r: usize, f: usize, a: u16, z: u16) -> bool
     a <= value && value <= z
 }
 
-// Whether both tests are passed. Both are made, so that a record is tested without a branch for each of them.
+// Whether both tests are passed. Both are evaluated, so that there is no branch for each of them.
 fn both(a: bool, b: bool) -> bool
     ensures { λ v. ⌜ v ≡ (a && b) ⌝ }
 {

@@ -1,12 +1,12 @@
--- What the rule test still has before it, on the chain of rules and on the chain of a rule's literals.
+-- Invariants of the loops of the rule test, over the chain of rules and over the chain of a rule's literals.
 --
 --   rule-shorter, literal-shorter
---                           from the next rule on the chain is shorter; so it is of literals
---   RulesAhead b on σ r     from r on the chain has rules that decide as all rules of the plan b do
+--                           the measures: the chain from the next rule on is shorter, and so for literals
+--   RulesAhead b on σ r     testing the rules from r on gives the same result as testing all rules of the plan b
 --   rules-first, -met, -unmet, -done
---                           all are ahead at first; a rule that is met leaves the rest to decide; one that is not decides; so does the end
+--                           it holds at first, and past a rule that is met; a rule that is not met gives the answer, and so does the end
 --   LiteralsAhead b on σ first l
---                           from l on the chain has literals that decide as all from `first` on do
+--                           testing the literals from l on gives the same result as testing all from `first` on
 --   literals-first, -held, -missed, -done
 --                           the same of the literals of a rule
 --

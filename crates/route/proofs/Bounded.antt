@@ -3,8 +3,8 @@
 --   at-most-none   there is none where the way on costs more, or is not there
 --   at-most-some   else it is the way on
 --   at-most-found, at-most-lost
---                  by its cost: that of a way on, which it then is, or that of none
---   kept-size      room that its belts are put into stays as large
+--                  by the cost: where it is that of a way on, this is the route; where it is that of none, there is none
+--   kept-size      storing its belts in an array leaves the array's length as it was
 --
 -- Assumes nothing.
 use mathlib.Core.Path.{_≡_, refl, sym, _∙_, ap, subst}

@@ -13,11 +13,11 @@
 --   route-length     it has at most t - s belts: each leads higher
 --   sum-cost         THE BOUND of a cost: 65,535 for each belt of the plan, whether they are a route or not
 --   route-few, route-cheap
---                    so between junctions it has at most 255 belts, and costs less than costLimit
+--                    so between junctions it has at most maxSteps belts, and costs less than costLimit
 --   ends-junctions   s and t are junctions where they are no wrong ends
 -- Routes as the code holds them:
 --   ids-packed       a packed route holds the belts that were packed
---   packed-sets      belts stored from the front of an array of 255 are `packed`
+--   packed-sets      belts stored from the front of an array of maxSteps are `packed`
 --   known-route      the belts that a known Route holds are the belts at their records
 --   known-names      and their names are those that it holds
 --   known-cheap      they cost less than costLimit

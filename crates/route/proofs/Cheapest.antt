@@ -1,11 +1,11 @@
--- Looking only at belts by which the way on gets cheaper, where none is required.
+-- The loop over the belts of a junction that no required belt leaves: only a belt that improves on the best so far counts.
 --
 --   Cheap x costs nearest whole k g es
---                  a way of cost k by belt g, once the belts es are looked at, is whole; none of them is required
---   cheap-start    so it is before the first, of no way
+--                  Invariant: folding the belts es over the way of cost k by belt g gives `whole`; none of es is required
+--   cheap-start    it holds at first, for `noWay` and all belts
 --   cheap-taken    a belt by which the way on is cheaper, not forbidden and leading no further than the junction nearest, is taken
 --   cheap-passed   any other is passed over
---   cheap-end      where none is left the way is whole
+--   cheap-end      where no belt is left the way is `whole`
 --
 -- The way on after a belt costs at most costLimit, and so does the best so far. Where the sum over the belt is less, there is such a way.
 -- Assumes nothing.

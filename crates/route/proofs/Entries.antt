@@ -2,7 +2,7 @@
 --
 --   stores-at         after storing, a place of the list has what is stored there, and any other what it had; stores-append: one list after another
 --   next-rule-low, first-literal-low, next-literal-low
---                     what a record of a rule or a literal leads to is below 2,048
+--                     what a record of a rule or a literal leads to is below maxRecords
 --   rule-entry, literal-entry
 --                     the entry of a rule, and of a literal
 --   first-entry, rule-parts, literal-parts
@@ -10,13 +10,13 @@
 --   clauses-lent      an array of n entries has one for each record, if there are at most n records
 -- The literals of a rule, one after the other:
 --   LiteralsStored b old first now l
---                     storing the entries from literal l on makes of the array `now` what storing those from `first` on makes of `old`
+--                     Invariant: storing the entries from literal l on in `now` gives the same array as storing those from `first` on in `old`
 --   literals-start, -stored, -size, -end
---                     so it is at first; the next entry is stored; the arrays are of one length; at the end nothing is left
+--                     it holds at first, and after the next entry is stored; the arrays are of one length; at the end no entry is left
 -- The rules, one after the other:
 --   recordsFrom b r   the records of the rules from r on: of each its own, and those of its literals
 --   RulesStored b n now r
---                     storing the entries from rule r on makes of the array `now` what storing all makes of a fresh one of n
+--                     Invariant: storing the entries from rule r on in `now` gives the same array as storing all in n zeros
 --   rules-start, -stored, -size, -end
 --                     the same of the rules; at the end the array is clausesIn n
 --

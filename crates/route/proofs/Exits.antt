@@ -3,7 +3,7 @@
 --   exit-mask b u         the mask of junction u, as it is gathered
 --   Filled b u exits      the array exits has the masks of the junctions below u, and 0 from u on
 --   filled-start, -next, -end
---                         so it is at first with none; with the mask of u one more is done; behind the last junction it is all of exitsOf
+--                         it holds at first, with no mask stored; storing the mask of u extends it to u + 1; past the last junction the array is exitsOf
 --   required-hit, hit-required
 --                         what the mask of a junction has in common with the required belts are those of them that leave the junction
 --   none-required         where that is nothing, none of them leaves the junction

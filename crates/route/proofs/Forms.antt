@@ -2,10 +2,10 @@
 --
 --   form-short, form-long, form-odd, form-head
 --                       what is too short, too long, of no whole number of records, or of a wrong record 0 is not in the form
---   form-steps          all else is in it as its steps are
---   beltsFrom h k n     the belts of the steps behind the first k, of n
---   belts-next          one of them stored, the others are to be stored behind it
---   belts-done          where none is left nothing is to be stored
+--   form-steps          anything else is in the form exactly when its steps are
+--   beltsFrom h k n     the belts of the steps from k + 1 on, of n steps
+--   belts-next          storing them is to store the first, and then the others behind it
+--   belts-done          where none is left, storing them changes nothing
 --
 -- Assumes nothing.
 use mathlib.Core.Path.{_≡_, sym, _∙_, ap}
@@ -52,7 +52,7 @@ module _ (h : List ℕ) where
 
 -- ---- the belts
 
--- the belts of the steps behind the first k, of n
+-- the belts of the steps from k + 1 on, of n steps
 abbrev pub beltsFrom : List ℕ → ℕ → ℕ → List BeltId
 beltsFrom h k n = map beltId (map (λ (i : ℕ). field h i 2) (upto (k + 1) (n + 1)))
 

@@ -1,6 +1,6 @@
--- The belts that a Route holds, one after the other, and what is left of them from place k on.
+-- The belts that a Route holds, one after the other, and those from place k on.
 --
---   places              the array has 255 places, as what owning the Route tells has it
+--   places              the array has maxSteps places, in the form in which owning a Route gives that fact
 --   firstIds k belts    the names of the first k of an array of belts; length-first: there are k
 --   first-more          one more of them is one more name at the end
 --   ids-next, ids-end   the names that a Route holds are its first `count`: the next of them, and the end

@@ -3,7 +3,7 @@
 --   lowest-place   the trailing zeros of the mask are the place of a named belt
 --   lowest-number  the array of the named belts has it there; lowest-belt: it is a belt of the plan
 --   way-only       where the mask has no other place, the way on from the junction is that by this belt
---   way-shut       where it has, there is none, and this belt keeps its name
+--   way-shut       where it has, there is no way on; the belt answered is still this one
 --
 -- Named belts rise, so the lowest place is that of the first required belt that leaves the junction (`first-required` of Required.antt). The
 -- mask has another place exactly when a second one does. Assumes nothing.

@@ -3,7 +3,7 @@
 --   AgreeOn rules x y   the tests x and y agree on the belts that the rules name
 --   met-cong          such tests meet the same rules; lowest-cong: have one lowest setting
 --   passes-named      the belts of an accepted plan with these names pass exactly these
---   known-low         the names of the belts of a Route of an accepted plan are below 2,048
+--   known-low         the names of the belts of a Route of an accepted plan are below maxRecords
 --   route-placeable   they can be looked up
 --   mask-named        the mask of some belts is of named belts
 --   met-mask          in an accepted plan the mask of a Route meets the rules that the route meets

@@ -1,8 +1,8 @@
--- What the pass backwards keeps for each junction: the cost and the first belt of its way on in one number.
+-- The word that the backward pass packs for each junction: the cost and the first belt of its way on.
 --
---   cost-at, first-at        the cost and the first belt that an array of such numbers has for a junction
---   cost-of, first-of        those of the number of a cost and a belt
---   costs-set, firsts-set    the costs and the first belts once such a number is stored
+--   cost-at, first-at        the cost and the first belt that an array of words has for a junction
+--   cost-of, first-of        unpacking the word of a cost and a belt gives them back
+--   costs-set, firsts-set    the costs and the first belts after such a word is stored
 --   kept-start               an array of zeros
 --   spared-set               only the places from s on and before t are stored to
 --   spared-next, spared-cleared

@@ -1,4 +1,4 @@
--- Looking at the belts that leave a junction, one by one: what the way that is kept says of all of them.
+-- The fold over the belts that leave a junction (wayBy): what its result says of all of them.
 --
 --   by-none, by-some, over-open, over-shut
 --                     what the way on by a belt costs, by the definitions
@@ -8,9 +8,9 @@
 --                     the way on by belt e costs less than that by f, or as much and e has no higher name
 --   Looked x costs nearest es way
 --                     of the belts of es that stand alone, way has the first of the cheapest (chosen), or there is no way on by any (blocked)
---   stays             behind a required belt its way stays, or is shut where a second one is required
---   looked            this is so once the belts es, of rising names, are looked at
---   looked-required   and then the way is marked exactly if one of them is required
+--   stays             past a required belt the fold keeps its way, or drops it where a second one is required
+--   looked            this holds of the fold over the belts es, of rising names
+--   looked-required   and its result is marked as required exactly if one of them is required
 --
 -- There are two cases. Where no belt is required, each stands alone, and the first of the cheapest is kept. Where one is, it alone can
 -- stand alone, and it is kept whatever it costs; unless a second one is required too, and then none stands alone. Assumes nothing.

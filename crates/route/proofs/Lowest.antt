@@ -1,12 +1,11 @@
 -- The first number that passes a test, and the lowest setting.
 --
 --   First f i n o     o is the first of the n numbers from i on that pass, or none, and none of them pass
---   find-run          `find` over a run finds it; find-is, find-none: so does a number, or none, that is it
+--   find-run          what `find` over a run answers is this; find-is, find-none: and whatever is this is what it answers
 --   find-run-split    the first of n + m numbers is the first of the first n of them, or else that of the other m (otherwise)
 --   find-cong         two tests that agree on the elements of a list find the same in it
 --   halves, weight, all-modes
---                     a mode counts half of what it and the lower ones make up; 16 bits do not cut what a mode counts; ten modes make up
---                     1,024
+--                     2^(m-1) is half of 2^m, and fits into 16 bits; 2^m is at most 2^maxModes
 --   settle-none       without modes the one setting is tested
 --   settle-both       else the settings with the highest mode off come first, then those with it on
 --   lowest-claim      THE CLAIM: `lowest` is the lowest setting that works; there is none exactly when the route is not permitted

@@ -1,4 +1,4 @@
--- The pass backwards, one junction after the other: what the arrays of costs and of first belts hold once the junctions from u on are done.
+-- The invariant of the backward pass: what the arrays of costs and of first belts hold once the junctions from u on are done.
 --
 --   Passed b x t u nearest costs firsts
 --                              from u on each junction has the cost and the first belt of its way on, and nearest is the nearest of them that a

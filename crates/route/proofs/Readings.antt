@@ -3,7 +3,7 @@
 --   IsStep h i next e   record i of h is a step with the next index `next` and the belt e
 --   InForm h            h is in the form of a sheet, said by equations
 --   form-is, is-form    the same as `inForm`
---   length-belts        there are as many belts on h as steps; few-belts: at most 255 where h is in the form
+--   length-belts        there are as many belts on h as steps; few-belts: at most maxSteps where h is in the form
 --   length-steps, length-sheet
 --                       there are twelve bytes for each step, and a sheet has twelve more
 --   round-trip          a sheet is in the form, and belts, cost and setting read back as written

@@ -1,10 +1,10 @@
 -- The way on from a junction that a required belt leaves.
 --
 --   second x e es     a belt of es that has a higher name than e is required
---   first-required    where e is the first required one of the belts es, of rising names, the way once they are looked at is that by e, or is shut
---                     where there is a second one
+--   first-required    where e is the first required one of the belts es, of rising names, the fold over them gives the way by e, or no way where
+--                     there is a second one
 --
--- In front of e nothing is required, and what was found there is dropped; behind it only required belts count (`stays` of Looking.antt). Assumes
+-- Before e nothing is required, and what the fold found there is dropped; after it only required belts count (`stays` of Looking.antt). Assumes
 -- nothing.
 use mathlib.Core.Path.{_≡_, refl, sym, _∙_, ap, subst}
 use mathlib.Core.Logic.{_⊎_, inl, inr}

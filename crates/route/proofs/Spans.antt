@@ -1,14 +1,14 @@
--- The belts of a junction, one by one, where belts stand side by side.
+-- Loops over the belts of a junction in the adjacency array.
 --
 --   Arc b a e              the number a is the arc of belt e of the plan b
 --   arc-place              the place of its belt is looked up by the arc's name, and has a bit in a mask
 --   arc-low                where it leads, and its name, are low
 --   Span b arcs i n es     the arcs from place i on and before place n, which all are there, are the belts es of the plan b
---   Left b arcs i n P      these belts pass P: what a loop over them keeps
+--   Left b arcs i n P      Invariant: these belts, which are still unread, satisfy P
 --   end-low                the places where the arcs of junctions end are low
 --   left-start             the arcs of a junction are the belts that leave it
---   Next b arcs i n P      one is left, the belt of the arc at place i, and the others follow it
---   left-next, left-end    where place n is not reached one is left; where it is reached none is
+--   Next b arcs i n P      there is a next belt, that of the arc at place i, and the others follow it
+--   left-next, left-end    before place n there is a next belt; at place n there is none
 --
 -- Assumes nothing.
 use mathlib.Core.Path.{_≡_, refl, sym, _∙_, ap, subst}

@@ -1,10 +1,10 @@
 -- What is stored, piece by piece, in the buffer of a sheet. How a record is written there is said in crate plan (proofs/Writing.antt).
 --
---   no-steps            the steps of no belts are placed already
---   length-stepped      the steps of the first belts placed, the buffer is as long as before
---   stepped             one record more behind them, and the steps of one belt more are placed
+--   no-steps            placing the steps of no belts changes nothing
+--   length-stepped      placing the steps of the first belts leaves the buffer's length as it was
+--   stepped             writing one more record behind them places the steps of one more belt
 --   headed              a record 0 of the right fields is the head
---   written             the head and the steps behind it are the sheet, 12 * n + 12 bytes, and what is behind the sheet stays
+--   written             the head and the steps behind it are the sheet, recordBytes * n + recordBytes bytes, and the bytes behind it do not change
 --
 -- Assumes nothing.
 use mathlib.Core.Path.{_≡_, refl, sym, _∙_, ap}

@@ -1,15 +1,15 @@
--- The walk forward: at each junction, what is stored and what is left of the way on make the whole way on from s.
+-- The invariant of the forward walk.
 --
 --   Walked b f s t start at count kept m
---                  the walk has come to junction at, has stored count belts into what was `start` and gathered the mask m
+--                  the walk has come to junction `at`, has stored count belts in what was `start`, and its mask is m; to store and gather
+--                  the way on from `at` as well gives the result for the whole way on from s
 --   walked-start   it starts with nothing stored
 --   Step b f s t start at count kept m x
---                  it can go on by belt x, which it stores and gathers
+--                  the walk can go on by belt x: it stores x, and adds it to the mask
 --   walked-next    where t is not reached it can go on by the belt that firsts has
 --   walked-whole   where t is reached, cost, count and mask are the answer, and the whole way is stored
 --
--- Nothing is said of the belts behind: that those left, stored and gathered from here on, would give what the whole way gives is kept by every
--- step, and at t, where none is left, it says what is wanted. Assumes nothing.
+-- The invariant says nothing of the belts already passed: every step keeps it, and at t, where the way on is empty, it is the result. Assumes nothing.
 use mathlib.Core.Path.{_≡_, refl, sym, _∙_, ap, subst}
 use mathlib.Core.Option.{Option, none, some}
 use Prim.Native.Nat.{ℕ, suc, _+_, _≤_, _<_}

@@ -9,8 +9,7 @@
 --                   the first broken one of lines 11 to 14 (sheetBy), or 0, by what a sheet in the form says
 -- The relaxed route, found from t backwards:
 --   Lent b places ends arcs
---                   what is lent with the plan b is made of it: it is accepted, and these are the places of its named belts and its belts
---                   side by side
+--                   the tables are those of the plan b, which is accepted: the places of its named belts, and its adjacency array
 --   isRequired x e, isForbidden x e
 --                   belt e is required, and is forbidden, by the subproblem x
 --   isOwed x t u e  belt e is required, and leaves u or a later junction before t
@@ -20,13 +19,14 @@
 --   wayCost o       the cost of a way on; costLimit, which no route costs, if there is none
 --   onBy e c        the cost of the way on by belt e, where that from where it leads costs c
 --   wayOver costs nearest forbidden e
---                   the same by an array of the costs from later junctions; a forbidden belt drops out (orShut), and one that leads past the
---                   junction nearest. costBy x costs nearest e: the same by the subproblem x
+--                   the same by an array of the costs from later junctions; costLimit for a forbidden belt (orShut), and for one that leads
+--                   past the junction nearest. costBy x costs nearest e: the same by the subproblem x
 --   preferred way e c required
---                   the way on from a junction, once its belt e is looked at, by which it costs c; noWay: before the first. A required belt
---                   drops the others, and a second one drops every way, but the first keeps its name
+--                   one turn of the fold over the belts of a junction: the way so far, and the belt e, over which the way on costs c; noWay:
+--                   before the first belt. A required belt replaces any other; after a second required one there is no way, and the
+--                   belt stays the first
 --   wayBy x costs nearest way es
---                   the same once all the belts es are looked at
+--                   the fold of all the belts es over `way`
 --   Begins p x t u v
 --                   the way on from u begins with belt v, if it begins with any
 --   Guides b f t s firsts

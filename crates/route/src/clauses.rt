@@ -44,7 +44,7 @@ fn code_of(places: &[u8; MAX_RECORDS], literal: Literal) -> u32
     }
 }
 
-// Puts the entries of a rule's literals into the array, which has one for each record.
+// Stores the entries of a rule's literals in the array, which has one for each record.
 fn put_literals(p: &[u8], places: &[u8; MAX_RECORDS], clauses: &mut [u32], rule: RuleId)
     requires { ⌜ Accepted (now p) × (now places ≡ namedPlaces (now p)) × IsRule (now p) (rule .0) × (records (now p) ≤ length (now clauses)) ⌝ }
     ensures { λ v. ⌜ now (clauses .exit) ≡ stores (entryOf (now (p .entry))) (now (clauses .entry)) (literalChain (now (p .entry)) (firstLiteral (now (p .entry)) (rule .0))) ⌝ }
@@ -58,8 +58,8 @@ fn put_literals(p: &[u8], places: &[u8; MAX_RECORDS], clauses: &mut [u32], rule:
     }
 }
 
-// Puts the clauses of an accepted plan into the array, which is all 0 before and as long as the plan has records, or longer. `places` are those of its
-// named belts (plan::named::named_places). Each literal is read once.
+// Fills the array with the clauses of an accepted plan. It is all 0 before, and has a place for each record or more. `places` are those of the named
+// belts (plan::named::named_places). Each literal is read once.
 pub fn decode(p: &[u8], places: &[u8; MAX_RECORDS], clauses: &mut [u32])
     requires { ⌜ Accepted (now p) × (now places ≡ namedPlaces (now p)) × (now clauses ≡ replicate (length (now clauses)) 0) × (records (now p) ≤ length (now clauses)) ⌝ }
     ensures { λ v. ⌜ now (clauses .exit) ≡ clausesIn (length (now (clauses .entry))) (now (p .entry)) ⌝ }

@@ -122,7 +122,7 @@ pub fn cost(p: &[u8], route: Route) -> u64
     sum
 }
 
-// Whether at the first difference route a has the lower belt. Where one goes on and the other ends, the shorter.
+// The lexicographic order by belt index: whether at the first difference route a has the lower belt. A proper prefix is lower.
 fn lower(a: Route, b: Route) -> bool
     requires { ⌜ (a .count ≤ maxSteps)
         × (b .count ≤ maxSteps) ⌝ }

@@ -1,17 +1,16 @@
 // The relaxed route of a subproblem: the first route from s to t with every required and no forbidden belt, rules left aside.
 //
-// One pass backwards over the junctions from t to s finds for each the cheapest way on to t; one walk forward along the first belts of these
-// ways is the route. Where no required belt leaves a junction the pass reads each belt that leaves it once, where belts stand side by side
-// (plan::adjacency). Where one does, it is found by its place among the named belts, and no other is looked at; it is read in the plan, as the
-// belts of the route are by the walk.
+// A backward pass over the junctions from t to s finds for each the cheapest way on to t, and its first belt. A forward walk along these first belts
+// gives the route. At a junction that no required belt leaves, the pass reads each belt that leaves it once, from the adjacency array
+// (plan::adjacency). At one that a required belt leaves, it reads only that belt, in the plan, and finds it by its place among the named belts.
 //
-// A required belt that leaves u cuts: every other belt from a junction ≤ u to one > u drops out. Going backwards the cut needs no search. A
-// belt from u drops out if it leads past the nearest junction above u that a required belt leaves, or if a required belt leaves u and it
-// is another one. Where none leaves u, only a belt by which the way on gets cheaper is looked at further. A required belt that leaves no junction
-// from s on and before t is on no route from s to t: such a subproblem is dropped before the pass.
+// A required belt that leaves u is a cut: no other belt from a junction ≤ u to one > u can be on the route. In a backward pass this takes no search.
+// A belt from u is excluded if it leads past the nearest junction above u that a required belt leaves, or if a required belt leaves u and it is
+// another one. Where none leaves u, a belt is tested for this only if the way over it is cheaper than the best so far. A required belt that leaves no
+// junction from s on and before t is on no route from s to t: such a subproblem is dropped before the pass.
 //
-// What a search has of each subproblem is the cost of the route, if it is within a bound, and its named belts. The belts stay in room that the caller
-// lends: they are asked for only where the route becomes the best, or has to be compared with it belt by belt (path::of_belts).
+// The answer has the cost of the route, if it is within a bound, how many belts it has, and which named ones. The belts themselves stay in an array
+// that the caller lends: they are read only if the route becomes the best, or has to be compared with the best belt by belt (path::of_belts).
 use crate::masks;
 use crate::path::COST_LIMIT;
 use crate::path::Trip;
@@ -48,7 +47,7 @@ pub struct Fixings {
     pub forbidden: u64,
 }
 
-// The cost of a relaxed route, how many belts it has and the named ones of them as a mask, or that there is none; then the cost is NO_WAY, and the rest 0.
+// A relaxed route: its cost, how many belts it has, and the mask of its named belts. Where there is none the cost is NO_WAY, and the rest 0.
 pub struct Summary {
     pub cost: u64,
     pub count: usize,
@@ -68,12 +67,12 @@ struct Way {
     required: bool,
 }
 
-// The pass backwards keeps one number for each junction, 0 before it: BELTS times the cost of the way on from there, and the first belt of that way.
-// BELTS is above the number of every belt.
+// The backward pass packs one word for each junction, 0 before it: BELTS times the cost of the way on from there, plus the first belt of that way.
+// BELTS is above the index of every belt.
 const BELTS: u64 = MAX_RECORDS as u64;
 
-// The cost of the cheapest way on over this belt, by the ways on from later junctions. A forbidden belt drops out, and one that leads past
-// `nearest`.
+// The cost of the cheapest way on that begins with this belt, by the costs of the ways on from later junctions; NO_WAY for a forbidden belt, and for
+// one that leads past `nearest`.
 fn way_over(
     p: &[u8],
     ways: &[u64; JUNCTION_PLACES],
@@ -95,8 +94,8 @@ fn way_over(
     read::cost(p, belt) + on
 }
 
-// The cheapest way on from junction u where required belts leave it, whose places are the mask `hit`: that over the only one of them, and none
-// where there are more. The belt is the first of them: named belts rise, so it has the lowest place.
+// The way on from junction u where required belts leave it, whose places are the mask `hit`. With one such belt it is the way over it, with more
+// there is none. The belt answered is the first of them: places are in the order of indices, so it is at the lowest bit of `hit`.
 fn by_required(
     p: &[u8],
     belts: &[u16; MAX_NAMED],
@@ -136,7 +135,7 @@ fn is_open(places: &[u8; MAX_RECORDS], forbidden: u64, nearest: usize, arc: u64)
     !masks::has(forbidden, named::place_of(places, adjacency::name(arc)))
 }
 
-// The cheapest way on from junction u where no required belt leaves it: a belt by which it gets no cheaper is not looked at further.
+// The cheapest way on from junction u where no required belt leaves it. Only a belt that would improve on the best so far is tested by `is_open`.
 fn cheapest(
     p: &[u8],
     places: &[u8; MAX_RECORDS],
@@ -196,9 +195,9 @@ fn way_from(
     by_required(p, belts, fixings, ways, nearest, u, hit)
 }
 
-// The pass backwards: the cost of the way on from s, or NO_WAY where there is none or it costs more than `bound`. `nearest` is the nearest junction
-// above u that a required belt leaves, or t. Every route with the required belts goes through such a junction, so where the way on from there
-// costs too much the pass is over. Only the ways of junctions from s on and before t are changed.
+// The backward pass: the cost of the way on from s, or NO_WAY where there is none or it costs more than `bound`. `nearest` is the nearest junction
+// above u that a required belt leaves, or t. Every route with the required belts passes such a junction, so the pass stops where the way on from one
+// costs more than `bound`. Only the words of junctions from s on and before t are written.
 fn ways_to(
     p: &[u8],
     places: &[u8; MAX_RECORDS],
@@ -263,7 +262,7 @@ fn first_of(ways: &[u64; JUNCTION_PLACES], u: usize) -> BeltId
     BeltId((ways[u] % BELTS) as u16)
 }
 
-// The walk forward, from s where there is a way on: the numbers of its belts are put into `kept`, from the first place on.
+// The forward walk from s, where there is a way on: stores the indices of its belts in `kept`, from the first place on.
 fn walk(
     p: &[u8],
     places: &[u8; MAX_RECORDS],
@@ -346,10 +345,10 @@ fn nothing() -> Summary
     }
 }
 
-// The relaxed route from s to t of a subproblem, if it costs at most `bound`: the numbers of its belts are put into `kept`, from the first place on,
-// and nothing else of it changes. What is lent is made once for all subproblems of a plan: the places of its named belts (plan::named::named_places)
-// and their numbers (`numbers`), its belts side by side (plan::adjacency::decode), and the named belts that leave each junction (`exits`). `ways`
-// is room to work in, all 0 before and after.
+// The relaxed route from s to t of a subproblem, if it costs at most `bound`: the indices of its belts are stored in `kept`, from the first place on,
+// and the rest of `kept` does not change. These arguments are made once for all subproblems of a plan: the places of its named belts
+// (plan::named::named_places) and their indices (`numbers`), its adjacency array (plan::adjacency::decode), and the named belts that leave each
+// junction (`exits`). `ways` is scratch space, all 0 before and after.
 pub fn relaxed_route(
     p: &[u8],
     places: &[u8; MAX_RECORDS],
@@ -401,7 +400,7 @@ pub fn relaxed_route(
     summary
 }
 
-// The numbers of an accepted plan's named belts, which are lent as plan::named::named_belts answers them, for `relaxed_route`.
+// The indices of an accepted plan's named belts as bare numbers, for `relaxed_route`. `list` is what plan::named::named_belts answers.
 pub fn numbers(p: &[u8], list: Named) -> [u16; MAX_NAMED]
     requires { ⌜ Accepted (now p) × (list .belts ≡ listed (named (planOf (now p)))) ⌝ }
     ensures { λ v. ⌜ v ≡ numbersOf (named (planOf (now (p .entry)))) ⌝ }
@@ -438,8 +437,8 @@ fn exits_at(
     mask
 }
 
-// Puts the named belts that leave each junction of a plan, as masks, into an array that is all 0 before. `places`, `ends` and `arcs` are those of the
-// plan, as for `relaxed_route`.
+// Fills an array that is all 0 before: for each junction of a plan the mask of the named belts that leave it. `places`, `ends` and `arcs` are those
+// of the plan, as for `relaxed_route`.
 pub fn exits(
     p: &[u8],
     places: &[u8; MAX_RECORDS],

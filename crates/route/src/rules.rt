@@ -26,7 +26,8 @@ fn is_true(on: u64, code: u32) -> bool
     (on >> (code / 2)) % 2 == (code % 2) as u64
 }
 
-// Whether every rule has a literal that holds, where the named belts of the mask `belts` are on the route; a rule is left as soon as one does.
+// Whether every rule has a literal that holds, where the named belts of the mask `belts` are on the route. The scan of a rule stops at its first
+// literal that holds.
 pub fn all_met(p: &[u8], clauses: &[u32], belts: u64, setting: u16) -> bool
     requires { ⌜ Accepted (now p) × Clauses (now p) (now clauses) × OfNamed (now p) belts ⌝ }
     ensures { λ v. ⌜ v ≡ allMet (planOf (now (p .entry)) .rules) (hasBelt (now (p .entry)) belts) setting ⌝ }

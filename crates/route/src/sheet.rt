@@ -34,7 +34,7 @@ pub struct Sheet {
     pub setting: u16,
 }
 
-// The index behind record i of a sheet with so many steps; 0 behind the last.
+// What field 1 of record i holds, in a sheet with so many steps: the index of the next record, and 0 in the last.
 fn next_of(count: usize, i: usize) -> u16
     requires { ⌜ count ≤ maxSteps ⌝ }
     ensures { λ v. ⌜ v ≡ nextOf count i ⌝ }
@@ -123,7 +123,7 @@ fn read_route(h: &[u8]) -> Route
     }
 }
 
-// A function of its own, so that the bound is known where the fields are put together.
+// The number as 64 bits. The contract tells the bound by which the sum of `read_cost` fits.
 fn wide(x: u16) -> u64
     ensures { λ v. ⌜ (v ≡ x) × (v < fieldLimit) ⌝ }
 {

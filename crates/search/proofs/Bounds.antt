@@ -5,10 +5,10 @@
 --   Tells b o t r k v what the summary v, asked for with the bound k, tells of the relaxed route o and the best r, where t says whether one is held:
 --                     if it costs as much as the bound, there is a relaxed route (equal); if not, or if no best is held, that route improves
 --                     on the best where the summary costs at most the bound (unequal); and one that does is the summary's (better)
---   tells             so it does
---   kept-in-size      a step leaves the room as large as it was
+--   tells             this holds of the summary that relaxed_route answers
+--   kept-in-size      a step leaves the length of `kept` as it was
 --   held-few, held-back
---                     where there is such a relaxed route it has at most 255 belts, and out of the room that its belts were put into it is read whole
+--                     where there is such a relaxed route it has at most maxSteps belts, and is read back whole from the array that its belts were stored in
 --   best-better       what becomes the best improves on it
 --
 -- Costs are compared first, and every route costs less than costLimit. Assumes nothing.

@@ -4,21 +4,22 @@
 --   gathered-at       a mask gathered from belts has the place of a named belt exactly when the belt is among them
 -- The mask of a rule, literal by literal:
 --   Gathering b places first l m
---                     the mask m with the belts of the literals from l on is the mask of those from `first` on
+--                     Invariant: adding the belts of the literals from l on to the mask m gives the mask of those from `first` on
 --   gathering-start, -low, -belt, -mode, -end, -shorter
---                     so it is at first; the belt of a literal can be looked up; it comes into the mask, and a mode leaves the mask as it
---                     is; at the end nothing is left; the chain gets shorter
+--                     it holds at first; the belt of a literal can be looked up, and is added to the mask; a mode leaves the mask as it is;
+--                     at the end no literal is left; the measure falls: the chain gets shorter
 -- The counts with one rule more, place by place:
 --   with-none, with-same, with-next
 --                     they begin as they were; the next place adds one if the mask has it, else nothing
 --   with-now          a place that is not looked at yet has its old count
 -- The counts of all rules, rule by rule:
---   Tallied b r xs    the counts xs with those of the rules from r on are the counts of all
+--   Tallied b r xs    Invariant: adding the rules from r on to the counts xs gives the counts of all rules
 --   tallied-start, -few, -next, -end, -shorter
---                     so it is at first; no count is high; the next rule adds its belts; at the end they are countsOf; the chain gets shorter
+--                     it holds at first; no count overflows; the next rule adds its belts; at the end xs is countsOf; the measure falls
 --   counts-at         the count at a place is that of the belt there
 --
--- One idea serves all three loops: what is done, with what is left, is the whole. Assumes nothing.
+-- The invariants of all three loops have one form: folding what is still unread over the value so far gives the result for the whole. Assumes
+-- nothing.
 use mathlib.Core.Path.{_≡_, refl, sym, _∙_, ap, subst}
 use mathlib.Core.Logic.{_⊎_, inl, inr}
 use mathlib.Core.Bool.{Bool, true, false, _&&_, _||_}

@@ -1,12 +1,12 @@
 -- Depth first, few subproblems wait: each fixes at least as many named belts as there are older ones.
 --
---   deep-begun        it is so at the beginning
+--   deep-begun        this holds at the beginning
 --   deep-tested, deep-considered
---                     and stays so when the newest is taken: what is taken fixes as many as there are others, and each of its children one more
+--                     and still holds when the newest is taken: what is taken fixes as many as there are others, and each of its children one more
 --   deep-few          so at most one more waits than there are named belts
 --   depth-claim       all this of the sequence without a budget, where the newest is taken next
 --
--- The one idea: what stands above n others was branched n times at least. Assumes nothing.
+-- The one idea: a subproblem with n older ones was made by at least n branchings. Assumes nothing.
 use mathlib.Core.Path.{_≡_, refl, sym, subst}
 use mathlib.Core.Bool.{Bool, true, false}
 use Prim.Native.Nat.{ℕ, zero, suc, _+_, _-_, _≤_}

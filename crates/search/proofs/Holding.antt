@@ -1,15 +1,15 @@
 -- What a Search stands for, as the code changes it: after each change it stands for the state that the written search goes to, and is valid.
 --
---   places              the length of a Search's array, as the code tells it
+--   places              the length of a Search's array, in the form in which owning a Search gives that fact
 --   waiting-length      the first n masks of an array are n subproblems
---   settledTo f o r v j the Search v once what becomes of its subproblem of the masks f, j, is done, with the relaxed route r and the order o
---   Room v j            there is room for that
+--   settledTo f o r v j the Search v after the decision j on the subproblem f is carried out, with the relaxed route r and the order o
+--   Room v j            the array has room for what j adds
 --   Taken b v f         a Search from which the subproblem of the masks f was taken: there is room for its children
---   Settles .. r st j   with what is done, the Search is valid, and stands for the state st
---   compared-settles    steps 3 to 6, where there is a relaxed route: so it is
+--   Settles .. r st j   after j is carried out the Search is valid, and stands for the state st
+--   compared-settles    this holds for steps 3 to 6, where there is a relaxed route
 --   popped v            the Search v without its newest subproblem, opened and counted
 --   newest-waits, count-few, popped-taken
---                       the newest is the first that waits; at most 49 wait; without the newest there is room for its children
+--                       the newest is the first that waits; at most maxWaiting wait; without the newest there is room for its children
 --   first-state, first-valid
 --                       at its beginning
 --

@@ -9,11 +9,12 @@
 --   step-empty, step-spent, step-goes
 --                         where nothing waits, where the budget is spent, and where it goes on
 -- A run:
---   Running b q v         what is left of the run from the Search v is the whole run
---   running-first         so it is at the beginning
---   Handed b q w e        what a step handed back, w with the ending e: the run goes on from it, or it is what the whole run hands back
---   left q w e            how many steps are left, at most
---   handed, fewer         so it is after one more step, which leaves fewer
+--   Running b q v         Invariant: running on from the Search v gives the result of the whole run
+--   running-first         it holds at the beginning
+--   Handed b q w e        the same of what a step handed back, w with the ending e: where the search goes on, of its Search; where it has ended,
+--                         w is the result of the whole run
+--   left q w e            the measure: how many steps are left, at most
+--   handed, fewer         it holds after one more step, and the measure falls
 --
 -- Each goes by what was tested, clause by clause of the definition. Assumes nothing.
 use mathlib.Core.Path.{_≡_, refl, sym, _∙_, ap, subst}

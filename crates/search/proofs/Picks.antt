@@ -4,9 +4,10 @@
 --                     the first place that is kept and passes, by the trailing zeros of a mask of such places
 --   free-bits         the mask of the places that are unfixed and in a mask
 --   find-all          where every place passes, the first of all
---   Tops xs o t j n   whether a best place is held, t, which, j, and its count in xs, n, say of the busiest place what o does
+--   Tops xs o t j n   Invariant: the loop's variables stand for o, the busiest place so far, if any: t says whether there is one, j is the place, and
+--                     n its count in xs
 --   tops-taken, tops-kept, tops-found, tops-none
---                     one more place, which becomes the best or does not, and the end
+--                     it holds after one more place, which becomes the best or does not; and what it says at the end
 --   else-at, else-none
 --                     a place that was looked for, or else another
 --   picks-lowest, picks-busiest, picks-on

@@ -8,7 +8,7 @@
 --   zero-query, zero-10, query-zero
 --                      the answer is 0 exactly where the lines of what is asked and line 10 are unbroken
 --   limits-claim       InLimitsClaim
---   apart              0 is not 1: what an equation of two different forms comes to
+--   apart              0 is not 1: by this an equation of two different constructors is refuted
 --   runOf k            the run of the request
 --   outcome-refused, outcome-ended
 --                      the outcome, by whether a line is broken

@@ -4,7 +4,7 @@
 --                      ever waits
 --   Apart p x          the required and the forbidden belts of x are named belts, none of them twice, and none is both
 --   apart-free, apart-children
---                      so it is at the beginning, and where it is so of a subproblem it is of its children
+--                      it holds at the beginning, and where it holds of a subproblem it holds of its children
 --   fixes-claim        FixesClaim
 --   sound-claim        SoundClaim: this, the depth, the best and the budget in one
 --

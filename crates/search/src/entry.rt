@@ -37,7 +37,7 @@ ghost use Rattle.search.specs.Answers.{orZero, unlessRefused, outcome, r
 ghost use Rattle.search.specs.Values.{requestOf, Valid};
 ghost use Rattle.search.specs.Inner.{bestOf};
 
-// A plan of at most so many records is decoded into arrays of that size, which are sooner cleared than those of the largest plan.
+// Plans of at most so many records are decoded into arrays of this size, which take less time to clear than those of the largest plan.
 const SMALL_PLAN: usize = 256;
 
 const SMALL_PLAN_BYTES: usize = RECORD_BYTES * SMALL_PLAN;
@@ -95,12 +95,12 @@ fn write_best(
         cost: path::cost(p, route),
         setting: setting_of(modes::lowest_setting(p, clauses, masks::on_route(places, route))),
     };
-    let length = sheet::write(out, sheet);
-    Answer::Found(search.opened, length)
+    let size = sheet::write(out, sheet);
+    Answer::Found(search.opened, size)
 }
 
-// The answer of a query that no line refuses. What is lent is made of the plan: the list and the places of its named belts (plan::named), its belts side
-// by side (plan::adjacency::decode) and its rules (route::clauses::decode).
+// The answer to a query that no line refuses. The tables are decoded from the plan: the list and the places of its named belts (plan::named), its
+// adjacency array (plan::adjacency::decode) and its clauses (route::clauses::decode).
 fn find_over(
     p: &[u8],
     query: Query,
@@ -147,7 +147,7 @@ fn find_over(
     }
 }
 
-// The same, with what is made of the plan. An array is cleared whole for each query, so a small plan, of up to 256 records, has smaller ones.
+// The same; decodes the plan first. The arrays are cleared for each query, so a small plan (SMALL_PLAN) gets smaller ones.
 fn find_route(p: &[u8], query: Query, out: &mut [u8]) -> Answer
     requires { ⌜ Accepted (now p)
         × (wrongEnds (planOf (now p)) (query .trip .s) (query .trip .t) ≡ false)
@@ -196,10 +196,10 @@ pub fn numbers(answer: Answer) -> Reply
     ensures { λ v. ⌜ v ≡ replyOf answer ⌝ }
 {
     match answer {
-        Answer::Found(opened, length) => Reply {
+        Answer::Found(opened, size) => Reply {
             number: 0,
             opened: opened,
-            size: length,
+            size: size,
         },
         Answer::Nothing(opened) => Reply {
             number: 100,

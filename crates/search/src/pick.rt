@@ -22,7 +22,7 @@ ghost use Rattle.search.specs.Branching.{highest, pickOf};
 ghost use Rattle.search.specs.Values.{countsOf, pickedPlace};
 ghost use Rattle.search.specs.Inner.{beltsIn, withRule, unfixedPlaces, atPlace, countAt};
 
-// What the picks go by beside a subproblem and its relaxed route: how many named belts there are, and in how many rules each of them is.
+// How many named belts there are, and in how many rules each of them is. Counted once for all picks.
 pub struct Counts {
     pub named: usize,
     pub rules: [u16; MAX_NAMED],
@@ -87,7 +87,7 @@ pub fn rule_counts(p: &[u8], places: &[u8; MAX_RECORDS], count: usize) -> Counts
     }
 }
 
-// The lowest unfixed belt in a mask: below the lowest bit that is 1 there are as many zeros as its place says.
+// The lowest unfixed belt in a mask: its place is the number of trailing zeros of the mask without the fixed belts.
 fn lowest_in(fixings: Fixings, count: usize, mask: u64) -> Place
     requires { ⌜ count ≤ maxNamed ⌝ }
     ensures { λ v. ⌜ v ≡ atPlace (find (λ (k : ℕ). inMask mask (At k)) (unfixedPlaces fixings count)) ⌝ }
@@ -108,7 +108,8 @@ fn lowest(fixings: Fixings, count: usize) -> Place
     lowest_in(fixings, count, ALL)
 }
 
-// The unfixed belt in most rules, the lowest of equals: the places are gone through downwards, and a later one replaces an equal.
+// The unfixed belt in most rules, the lowest of equals: the loop runs downwards over the places, and a count that equals the highest so far replaces
+// it.
 fn busiest(fixings: Fixings, counts: Counts) -> Place
     requires { ⌜ counts .named ≤ maxNamed ⌝ }
     ensures { λ v. ⌜ v ≡ atPlace (highest (countAt (counts .rules)) (unfixedPlaces fixings (counts .named))) ⌝ }
@@ -147,8 +148,8 @@ fn lowest_on(fixings: Fixings, count: usize, mask: u64) -> Place
     }
 }
 
-// The place of the belt picked, of a subproblem and its relaxed route; Place::Unnamed where no named belt is unfixed. Of the route only its named
-// belts matter, which are handed over as a mask.
+// The place of the belt picked, of a subproblem and its relaxed route; Place::Unnamed where no named belt is unfixed. `mask` has the named belts of
+// the route: nothing else of it matters.
 pub fn picked(p: &[u8], counts: Counts, pick: u64, fixings: Fixings, mask: u64) -> Place
     requires { ⌜ Accepted (now p)
         × (counts ≡ countsOf (now p)) ⌝ }

@@ -14,8 +14,8 @@ ghost use Rattle.search.specs.Search.{run};
 ghost use Rattle.search.specs.Answers.{problemIn};
 ghost use Rattle.search.specs.Values.{turnIn, Valid, boundIn, Ready};
 
-// Steps until one ends. What is lent is that of the plan, as for a step. What a step hands back stays whole: to take the search out of it would
-// copy it. The steps share the room that they work in.
+// Makes steps until one ends the search. The tables are those of `step`. What a step hands back stays in one struct: to move the Search out of it
+// would copy it. All steps share the scratch arrays `ways` and `kept`.
 pub fn run(
     p: &[u8],
     places: &[u8; MAX_RECORDS],

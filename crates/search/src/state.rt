@@ -29,8 +29,8 @@ ghost use Rattle.search.specs.Inner.{endedAs, childAt, judgedIn};
 // How many subproblems can wait at once: each fixes as many named belts as there are older ones, or more.
 pub const MAX_WAITING: usize = MAX_NAMED + 1;
 
-// A search: the subproblems that wait are the first `count` of the array, the newest last; how many have been opened; and the best route
-// so far, if one is found. What is not in use is 0. It is handed on by value, and holds nothing that follows from the rest of it.
+// A search: the subproblems that wait are the first `count` of the array, the newest last; how many have been opened; and the best route so far, if
+// one is found. What is not in use is 0. The struct is passed by value, so it has no field that follows from the others.
 pub struct Search {
     pub waiting: [Fixings; MAX_WAITING],
     pub count: usize,
@@ -55,7 +55,8 @@ pub enum Ending {
 pub struct Stepped {
     pub search: Search,
     pub ending: Ending,
-    // What a relaxed route may cost at most: the cost of the best route, or relax::UNBOUNDED where none is found. So no step adds it up again.
+    // What a relaxed route may cost at most: the cost of the best route, or relax::UNBOUNDED where none is found. Kept here, so that no step
+    // has to sum it again.
     pub bound: u64,
 }
 
@@ -160,13 +161,12 @@ fn child(fixings: Fixings, k: usize, required: bool) -> Fixings
 }
 
 impl Search {
-    // One step. What is lent is made once for all steps: the places of the plan's named belts (plan::named::named_places) and their numbers
-    // (route::relax::numbers), its belts side by side (plan::adjacency::decode), the named belts that leave each junction (route::relax::exits), its
-    // rules (route::clauses::decode) and the counts (pick::rule_counts). `bound` is that of the search, as a step hands it back with it. `ways` and
-    // `kept` are room to work in: `ways` is all 0 before and after, and `kept` has the relaxed route of the subproblem that was opened, if there is one
-    // within the bound, over what it had before.
-    // The search is changed here alone: each function that it were handed on to would copy it. The relaxed route is read out of `kept` only where its
-    // cost does not decide, or where it becomes the best.
+    // One step. The tables are made once for all steps: the places of the plan's named belts (plan::named::named_places) and their indices
+    // (route::relax::numbers), its adjacency array (plan::adjacency::decode), the named belts that leave each junction (route::relax::exits), its
+    // clauses (route::clauses::decode) and the counts (pick::rule_counts). `bound` is that of the search, as the last step handed it back. `ways` and
+    // `kept` are scratch arrays: `ways` is all 0 before and after; `kept` has the relaxed route of the opened subproblem, if there is one within the
+    // bound, over what it had before. Only this function writes to the Search: passing the struct (1.3 KB) to a helper by value would copy it there
+    // and back. The relaxed route is read from `kept` only if its cost equals the bound, or if it becomes the best.
     pub fn step(
         mut self,
         p: &[u8],
@@ -198,7 +198,7 @@ impl Search {
             };
         }
         let top = self.count - 1;
-        // An array of its own: of stores into the search at an index the compiler can't tell that they leave the best route as it is.
+        // A local copy: the compiler cannot tell that a store to `self.waiting` at a variable index leaves `self.best` as it is.
         let mut waiting = self.waiting;
         let fixings = waiting[top];
         let none = free();

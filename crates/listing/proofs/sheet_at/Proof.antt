@@ -20,7 +20,7 @@ returns : tie.Need-returns
 returns c =
     let args = c .before .before .before .args in (
       c .blank .ensures
-          ∙ sym (ap (λ (t : Bool). orBlank t (readSheet (take (args .length) (args .out .now)))) (lt-leb (args .length) (length (args .out .now)) (c .before .if1 .taken))),
+          ∙ sym (ap (λ (t : Bool). orBlank t (readSheet (take (args .size) (args .out .now)))) (lt-leb (args .size) (length (args .out .now)) (c .before .if1 .taken))),
       subst (λ (v : Sheet). v .route .count ≤ maxSteps) (sym (c .blank .ensures)) (omega arith),
     )
 
@@ -35,7 +35,7 @@ returns-2 c =
     let tested = c .before .before in
     let args = tested .before .before .args in (
       c .read-sheet .ensures .0
-          ∙ sym (ap (λ (t : Bool). orBlank t (readSheet (take (args .length) (args .out .now)))) (le-leb (args .length) (length (args .out .now)) (tested .if1 .left))),
+          ∙ sym (ap (λ (t : Bool). orBlank t (readSheet (take (args .size) (args .out .now)))) (le-leb (args .size) (length (args .out .now)) (tested .if1 .left))),
       c .read-sheet .ensures .1,
     )
 

@@ -1,4 +1,5 @@
--- `clauses::decode` meets its contract: storing the entries of the rules left makes the whole (RulesStored). Assumes nothing.
+-- `clauses::decode` meets its contract. Invariant: storing the entries of the rules still unread gives the array of all entries (RulesStored).
+-- Assumes nothing.
 use mathlib.Core.Path.{_≡_, sym, _∙_, ap, subst₂}
 use mathlib.Core.List.{List}
 use Prim.Native.Nat.{ℕ, _+_, _*_, _<_}

@@ -1,4 +1,5 @@
--- `clauses::put_literals` meets its contract: storing the entries of the literals left makes the whole (LiteralsStored). Assumes nothing.
+-- `clauses::put_literals` meets its contract. Invariant: storing the entries of the literals still unread gives the array with those of the whole
+-- rule (LiteralsStored). Assumes nothing.
 use mathlib.Core.Path.{sym, _∙_, ap, subst}
 use Prim.Native.Nat.{ℕ, _<_}
 use native.Mathlib.Omega.{arith}

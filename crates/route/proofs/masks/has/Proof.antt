@@ -1,4 +1,4 @@
--- `masks::has` meets its contract: a shift by the place brings its bit to the end. Assumes nothing.
+-- `masks::has` meets its contract: a shift by the place brings its bit to the lowest place. Assumes nothing.
 use mathlib.Core.Path.{subst, sym, ap}
 use borrow.Author.Needs.{needs}
 use Rattle.route.specs.Values.{inMask, LowPlace}

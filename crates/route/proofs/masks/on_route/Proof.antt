@@ -1,4 +1,5 @@
--- `masks::on_route` meets its contract: the mask so far with the belts of the route from k on is the mask of all. Assumes nothing.
+-- `masks::on_route` meets its contract. Invariant: adding the belts of the route from place k on to the mask so far gives the mask of the route.
+-- Assumes nothing.
 use mathlib.Core.Path.{_≡_, refl, sym, _∙_, ap, subst}
 use Prim.Native.Nat.{ℕ, _-_, _+_, _≤_, _<_}
 use native.Mathlib.Omega.{arith}

@@ -1,4 +1,4 @@
--- `masks::with` meets its contract: 64 bits do not cut the bit of the place. Assumes nothing.
+-- `masks::with` meets its contract: the bit of the place is within the 64 bits of a mask. Assumes nothing.
 use mathlib.Core.Path.{subst, sym, ap, _∙_}
 use borrow.Author.Needs.{needs}
 use lib.Bits.{bitOr}

@@ -1,4 +1,4 @@
--- `route::modes::settle` and `route::modes::try_both`, which call each other, meet their contracts: the mode falls. Assumes nothing.
+-- `route::modes::settle` and `route::modes::try_both`, which call each other, meet their contracts. The measure is the mode. Assumes nothing.
 use mathlib.Core.Path.{sym, ap, _∙_}
 use mathlib.Core.Bool.{Bool, true, false}
 use mathlib.Core.Option.{Option}

@@ -1,4 +1,4 @@
--- `path::are_belts` meets its contract: the belts that are left decide as all of them do. Assumes nothing.
+-- `path::are_belts` meets its contract. Invariant: the test of the belts from place k on gives the same result as the test of all. Assumes nothing.
 use mathlib.Core.Path.{_≡_, refl, sym, _∙_, ap}
 use mathlib.Core.Bool.{Bool, _&&_}
 use Prim.Native.Nat.{ℕ, _+_, _-_, _≤_}

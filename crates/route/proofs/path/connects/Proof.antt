@@ -1,4 +1,4 @@
--- `path::connects` meets its contract: what is left of the route connects where it stands with t exactly when all of it connects s with t.
+-- `path::connects` meets its contract. Invariant: the belts from place k on connect `at` with t exactly when the whole route connects s with t.
 -- Assumes nothing.
 use mathlib.Core.Path.{_≡_, sym, _∙_, ap}
 use mathlib.Core.Bool.{Bool, _&&_}

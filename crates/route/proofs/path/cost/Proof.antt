@@ -1,4 +1,4 @@
--- `path::cost` meets its contract: the sum so far and the cost of what is left make the cost of the route. Assumes nothing.
+-- `path::cost` meets its contract. Invariant: the sum so far plus the cost of the belts from place k on is the cost of the route. Assumes nothing.
 use mathlib.Core.Path.{_≡_, sym, _∙_, ap}
 use Prim.Native.Nat.{ℕ, _+_, _*_, _-_, _≤_}
 use native.Mathlib.Omega.{arith}

@@ -1,4 +1,4 @@
--- `path::lower` meets its contract: what is left of both routes decides as all of them does. Assumes nothing.
+-- `path::lower` meets its contract. Invariant: comparing the routes from place k on gives the same result as comparing them whole. Assumes nothing.
 use mathlib.Core.Path.{_≡_, refl, sym, _∙_}
 use mathlib.Core.Logic.{_⊎_, inl, inr}
 use mathlib.Core.Bool.{Bool, true, false}

@@ -1,4 +1,5 @@
--- `route::path::of_belts` meets its contract: the belts with those that are still to be stored are the array of all. Assumes nothing.
+-- `route::path::of_belts` meets its contract. Invariant: storing the belts from place k on in the array gives the array of the whole route. Assumes
+-- nothing.
 use mathlib.Core.Path.{_≡_, sym, _∙_, ap}
 use Prim.Native.Nat.{ℕ, _-_, _≤_, _<_}
 use mathlib.Core.List.{List, map}

@@ -1,5 +1,5 @@
--- `route::relax::cheapest` meets its contract: the belts that are left make of the way so far what all belts of the junction make of none
--- (Cheapest.antt). Assumes nothing.
+-- `route::relax::cheapest` meets its contract. Invariant: folding the belts still unread over the best way so far gives the same result as folding
+-- all belts of the junction over `noWay` (Cheapest.antt). Assumes nothing.
 use mathlib.Core.Path.{_≡_, sym, _∙_, ap, subst, subst₂}
 use mathlib.Core.Logic.{inl, inr, ⊎-elim}
 use mathlib.Core.Bool.{_||_}
@@ -26,7 +26,7 @@ use Rattle.route.proofs.Spans.{Left, Next, end-low, left-start, left-ne
 use Rattle.route.proofs.relax.cheapest.Statement.{statement}
 use Rattle.route.proofs.relax.cheapest.Tie as tie
 
--- with the belts es the way is that of all
+-- folding the belts es over the way so far gives the way of all
 abbrev Gives : List ℕ → Fixings → List ℕ → ℕ → ℕ → ℕ → BeltId → List Belt → Type 0
 Gives p f costs nearest u best belt es =
     Cheap (subproblemIn p f) costs nearest (wayBy (subproblemIn p f) costs nearest noWay (leaving (planOf p) u)) best belt es
@@ -140,7 +140,7 @@ sum c =
     let on = sym (cost-at ways (c .before .before .head .result)) ∙ ap (λ (j : ℕ). getD (costsIn ways) j 0) leads in
     λ i. costs i + on i
 
--- whether it drops out
+-- whether it is excluded
 shut : (c : tie.In-loop Inv-loop μ-loop) → let a = start c .args in let arc = getD (a .arcs .now) (c .before .loop .i) 0 in
     (inMask (a .fixings .forbidden) (placeIn (a .places .now) (arcName arc)) || ltb (a .nearest) (arcHead arc))
     ≡ (isForbidden (subproblemIn (a .p .now) (a .fixings)) (next c .belt) || ltb (a .nearest) (next c .belt .leads))
@@ -151,7 +151,7 @@ shut c =
     let out = ap (inMask (a .fixings .forbidden)) (arc-place (h .accepted) arc (h .placed) .0) ∙ sym (fixed-mem (named (planOf (a .p .now))) (a .fixings .forbidden) (next c .belt .name)) in
     λ i. out i || ltb (a .nearest) (arc .leads i)
 
--- what is left makes of the way, once the belt is looked at, what it is to give
+-- the invariant, once the belt is folded in
 passed : (c : tie.Joined1 Inv-loop μ-loop) → let turn = c .before .before .before .before .before in let a = start turn .args in
     Gives (a .p .now) (a .fixings) (costsIn (a .ways .now)) (a .nearest) (a .u) (c .if1 .best) (c .if1 .belt) (next turn .others)
 passed c =

@@ -1,4 +1,4 @@
--- `route::relax::clear` meets its contract: before j and from t on there are zeros. Assumes nothing.
+-- `route::relax::clear` meets its contract. Invariant: the places before j and from t on are 0. Assumes nothing.
 use Prim.Native.Nat.{_-_}
 use native.Mathlib.Omega.{arith}
 use Rattle.route.specs.Inner.{Spared}

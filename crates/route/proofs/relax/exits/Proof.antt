@@ -1,4 +1,4 @@
--- `route::relax::exits` meets its contract: the masks of the junctions below u are there (Filled). Assumes nothing.
+-- `route::relax::exits` meets its contract. Invariant: the masks of the junctions below u are stored (Filled). Assumes nothing.
 use mathlib.Core.Path.{sym, subst}
 use Prim.Native.Nat.{_+_, _-_, _≤_, _<_}
 use native.Mathlib.Omega.{arith}

@@ -1,5 +1,5 @@
--- `route::relax::exits_at` meets its contract: the mask so far with the belts that are left is the mask of all that leave the junction.
--- Assumes nothing.
+-- `route::relax::exits_at` meets its contract. Invariant: adding the belts still unread to the mask so far gives the mask of all belts that leave the
+-- junction. Assumes nothing.
 use mathlib.Core.Path.{_≡_, sym, _∙_, ap, subst}
 use Prim.Native.Nat.{ℕ, _-_, _<_}
 use mathlib.Core.List.{List}
@@ -16,7 +16,7 @@ use Rattle.route.proofs.Spans.{Left, Next, end-low, left-start, left-ne
 use Rattle.route.proofs.relax.exits_at.Statement.{statement}
 use Rattle.route.proofs.relax.exits_at.Tie as tie
 
--- with the belts es the mask is that of all
+-- adding the belts es to the mask so far gives the mask of all
 abbrev Gathers : List ℕ → List ℕ → ℕ → ℕ → List Belt → Type 0
 Gathers p places u mask es = gatheredIn places mask (namesOf es) ≡ gatheredIn (namedPlaces p) 0 (namesOf (leaving (planOf p) u))
 

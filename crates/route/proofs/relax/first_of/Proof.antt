@@ -1,4 +1,4 @@
--- `route::relax::first_of` meets its contract: the belt is what is left of a way's number. Assumes nothing.
+-- `route::relax::first_of` meets its contract: the belt is the remainder of a junction's word. Assumes nothing.
 use mathlib.Core.Path.{sym}
 use borrow.Author.Needs.{needs}
 use Rattle.route.proofs.Kept.{first-at}

@@ -1,4 +1,5 @@
--- `route::relax::inside` meets its contract: the mask so far with those of the junctions from u on is that of all. Assumes nothing.
+-- `route::relax::inside` meets its contract. Invariant: joining the masks of the junctions from u on to the mask so far gives the mask of all.
+-- Assumes nothing.
 use mathlib.Core.Path.{_≡_, refl, sym, _∙_, ap}
 use Prim.Native.Nat.{_-_}
 use borrow.Author.Needs.{needs}

@@ -1,4 +1,4 @@
--- `route::relax::numbers` meets its contract: the numbers below k are stored. Assumes nothing.
+-- `route::relax::numbers` meets its contract. Invariant: the numbers below place k are stored. Assumes nothing.
 use mathlib.Core.Path.{_≡_, sym, _∙_, ap}
 use mathlib.Core.Logic.{_⊎_, inl, inr}
 use Prim.Native.Nat.{ℕ, suc, _+_, _-_, _<_}

@@ -1,6 +1,6 @@
--- `relax::walk` meets its contract: what is left of the way on from s, behind what is stored and gathered, is the whole of it (Walked). The loop does not
--- read the fixings, so this is kept for all of which the ways are.
--- Assumes nothing.
+-- `relax::walk` meets its contract. Invariant: storing the belts of the way on from `at` behind those stored so far, and adding them to the mask,
+-- gives the result for the whole way on from s (Walked). The loop does not read the fixings, so the invariant is stated for every fixings that the
+-- ways belong to. Assumes nothing.
 use mathlib.Core.Path.{_≡_, refl, sym, _∙_, ap, subst, subst₂}
 use Prim.Native.Nat.{ℕ, _+_, _-_}
 use mathlib.Core.List.{List}

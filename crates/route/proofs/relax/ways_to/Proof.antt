@@ -1,4 +1,5 @@
--- `route::relax::ways_to` meets its contract: the pass is done from u on, and it ends at s. Assumes nothing.
+-- `route::relax::ways_to` meets its contract. Invariant: each junction from u on has the word of its way on (Passed). The loop ends at s. Assumes
+-- nothing.
 use mathlib.Core.Path.{_≡_, sym, _∙_, ap, subst, subst₂}
 use mathlib.Core.Bool.{true}
 use mathlib.Core.Option.{Option}

@@ -1,5 +1,5 @@
--- `route::rules::all_met` meets its contract: the rules from `next` on decide as all do, and of a rule the literals from `literal` on.
--- Assumes nothing.
+-- `route::rules::all_met` meets its contract. Invariants: testing the rules from `next` on gives the same result as testing all, and so do the
+-- literals from `literal` on for their rule. Assumes nothing.
 use mathlib.Core.Path.{_≡_, sym, ap, _∙_}
 use Prim.Native.Nat.{ℕ, _/_, _%_, _<_}
 use native.Mathlib.Omega.{arith}

@@ -1,4 +1,4 @@
--- `route::sheet::in_form` meets its contract: the steps from i on decide as all of them do. Assumes nothing.
+-- `route::sheet::in_form` meets its contract. Invariant: testing the steps from i on gives the same result as testing all. Assumes nothing.
 use mathlib.Core.Path.{_≡_, refl, sym, _∙_}
 use Prim.Native.Nat.{_+_, _-_}
 use native.Mathlib.Omega.{arith}

@@ -1,4 +1,4 @@
--- `route::sheet::put_steps` meets its contract: what is written are the steps of the belts so far. Assumes nothing.
+-- `route::sheet::put_steps` meets its contract. Invariant: the steps of the first k belts are written. Assumes nothing.
 use mathlib.Core.Path.{_≡_, _∙_, ap}
 use Prim.Native.Nat.{ℕ, _-_, _≤_, _<_}
 use native.Mathlib.Omega.{arith}

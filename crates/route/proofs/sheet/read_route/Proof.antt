@@ -1,4 +1,4 @@
--- `route::sheet::read_route` meets its contract: the belts with those that are still to be stored are the array of all.
+-- `route::sheet::read_route` meets its contract. Invariant: storing the belts from place k on in the array gives the array of the whole route.
 -- Assumes nothing.
 use mathlib.Core.Path.{_≡_, sym, _∙_}
 use Prim.Native.Nat.{_+_, _*_, _-_, _≤_, _<_}

@@ -1,4 +1,4 @@
--- `pick::busiest` meets its contract: the best so far is the busiest of the unfixed places from k on. Assumes nothing.
+-- `pick::busiest` meets its contract. Invariant: the best so far is the busiest of the unfixed places from k on. Assumes nothing.
 use mathlib.Core.Path.{_≡_, refl, sym, _∙_, ap, subst}
 use mathlib.Core.Bool.{Bool, true, false, not}
 use mathlib.Core.Option.{Option}

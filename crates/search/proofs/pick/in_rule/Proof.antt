@@ -1,5 +1,5 @@
--- `pick::in_rule` meets its contract: the mask so far with the belts of the literals left is the mask of all (Gathering).
--- Assumes nothing.
+-- `pick::in_rule` meets its contract. Invariant: adding the belts of the literals still unread to the mask so far gives the mask of the rule
+-- (Gathering). Assumes nothing.
 use mathlib.Core.Path.{sym, _∙_, ap, subst}
 use mathlib.Core.Logic.{⊎-elim}
 use Prim.Native.Nat.{ℕ, _<_}

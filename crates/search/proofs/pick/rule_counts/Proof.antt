@@ -1,4 +1,4 @@
--- `pick::rule_counts` meets its contract: the counts so far with those of the rules left are the counts of all (Tallied).
+-- `pick::rule_counts` meets its contract. Invariant: adding the rules still unread to the counts so far gives the counts of all rules (Tallied).
 -- Assumes nothing.
 use mathlib.Core.Path.{_∙_, ap}
 use Prim.Native.Nat.{ℕ}

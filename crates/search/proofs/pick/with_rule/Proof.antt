@@ -1,4 +1,4 @@
--- `pick::with_rule` meets its contract: after k turns the first k places are looked at. Assumes nothing.
+-- `pick::with_rule` meets its contract. Invariant: the first k places are counted. Assumes nothing.
 use mathlib.Core.Path.{_≡_, sym, _∙_, ap}
 use mathlib.Core.Logic.{⊎-elim}
 use Prim.Native.Nat.{ℕ, _-_, _+_, _≤_, _<_}

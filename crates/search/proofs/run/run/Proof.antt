@@ -1,5 +1,5 @@
--- `run::run` meets its contract: what is left of the run from what a step handed back is the whole run (Handed), and the bound handed back
--- is that of its search. Assumes nothing.
+-- `run::run` meets its contract. Invariant: running on from what the last step handed back gives the result of the whole run (Handed), and the bound
+-- handed back is that of its search. Assumes nothing.
 use mathlib.Core.Path.{_≡_, refl, sym, _∙_, ap, subst}
 use Prim.Native.Nat.{_<_}
 use lib.ListN.{length, replicate}

@@ -1,4 +1,4 @@
--- `state::child` meets its contract: one mask has the place of the belt, too. Assumes nothing.
+-- `state::child` meets its contract: the place of the belt is added to one of the two masks. Assumes nothing.
 use mathlib.Core.Path.{sym, _∙_, ap}
 use borrow.Author.Needs.{needs}
 use Rattle.plan.specs.declared.named.Place.the-variants.{At}

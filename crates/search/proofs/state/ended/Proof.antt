@@ -1,4 +1,4 @@
--- `state::ended` meets its contract: some wait, or else it goes by whether a best is held. Assumes nothing.
+-- `state::ended` meets its contract: by whether subproblems wait, then by whether a best is held. Assumes nothing.
 use mathlib.Core.Path.{_≡_, refl}
 use mathlib.Core.Bool.{Bool}
 use Prim.Native.Nat.{ℕ, zero, suc}
