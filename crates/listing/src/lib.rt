@@ -75,7 +75,8 @@ fn blank() -> Sheet
 
 // What the bytes say, if they are in the form of a sheet.
 fn read_sheet(h: &[u8]) -> Sheet
-    ensures { λ v. ⌜ (v ≡ readSheet (now (h .entry))) × (v .route .count ≤ maxSteps) ⌝ }
+    ensures { λ v. ⌜ (v ≡ readSheet (now (h .entry)))
+        × (v .route .count ≤ maxSteps) ⌝ }
 {
     if sheet::in_form(h) {
         return sheet::read(h);
@@ -85,7 +86,8 @@ fn read_sheet(h: &[u8]) -> Sheet
 
 // What the first `size` bytes say, if there are so many.
 fn sheet_at(out: &[u8], size: usize) -> Sheet
-    ensures { λ v. ⌜ (v ≡ sheetAt (now (out .entry)) size) × (v .route .count ≤ maxSteps) ⌝ }
+    ensures { λ v. ⌜ (v ≡ sheetAt (now (out .entry)) size)
+        × (v .route .count ≤ maxSteps) ⌝ }
 {
     if out.len() < size {
         return blank();
@@ -95,7 +97,8 @@ fn sheet_at(out: &[u8], size: usize) -> Sheet
 
 // The values of an answer. A route's sheet stands at the start of `out`.
 pub fn line_of(answer: Answer, out: &[u8]) -> Line
-    ensures { λ v. ⌜ (v ≡ lineOf answer (now (out .entry))) × (v .sheet .route .count ≤ maxSteps) ⌝ }
+    ensures { λ v. ⌜ (v ≡ lineOf answer (now (out .entry)))
+        × (v .sheet .route .count ≤ maxSteps) ⌝ }
 {
     let reply = entry::numbers(answer);
     let sheet = sheet_at(out, reply.size);

@@ -18,7 +18,8 @@ pub struct Gathered {
 
 // Nothing is gathered yet.
 pub fn nothing() -> Gathered
-    ensures { λ v. ⌜ (v .filled ≡ 0) × (v .failed ≡ false) ⌝ }
+    ensures { λ v. ⌜ (v .filled ≡ 0)
+        × (v .failed ≡ false) ⌝ }
 {
     Gathered {
         filled: 0,

@@ -45,7 +45,9 @@ fn put_leaving(p: &[u8], u: usize, from: usize, arcs: &mut [u64]) -> usize
         × (u ≤ planOf (now p) .junctions)
         × (from + length (leaving (planOf (now p)) u) ≤ length (now arcs)) ⌝ }
     ensures { λ v. ⌜ (v ≡ from + length (leaving (planOf (now (p .entry))) u))
-        × (now (arcs .exit) ≡ take from (now (arcs .entry)) ++ map arcOf (leaving (planOf (now (p .entry))) u) ++ drop (from + length (leaving (planOf (now (p .entry))) u)) (now (arcs .entry))) ⌝ }
+        × (now (arcs .exit) ≡ take from (now (arcs .entry))
+        ++ map arcOf (leaving (planOf (now (p .entry))) u)
+        ++ drop (from + length (leaving (planOf (now (p .entry))) u)) (now (arcs .entry))) ⌝ }
 {
     let mut count = from;
     let mut belt = read::first_belt(p, u);

@@ -46,8 +46,12 @@ fn code_of(places: &[u8; MAX_RECORDS], literal: Literal) -> u32
 
 // Stores the entries of a rule's literals in the array, which has one for each record.
 fn put_literals(p: &[u8], places: &[u8; MAX_RECORDS], clauses: &mut [u32], rule: RuleId)
-    requires { ⌜ Accepted (now p) × (now places ≡ namedPlaces (now p)) × IsRule (now p) (rule .0) × (records (now p) ≤ length (now clauses)) ⌝ }
-    ensures { λ v. ⌜ now (clauses .exit) ≡ stores (entryOf (now (p .entry))) (now (clauses .entry)) (literalChain (now (p .entry)) (firstLiteral (now (p .entry)) (rule .0))) ⌝ }
+    requires { ⌜ Accepted (now p)
+        × (now places ≡ namedPlaces (now p))
+        × IsRule (now p) (rule .0)
+        × (records (now p) ≤ length (now clauses)) ⌝ }
+    ensures { λ v. ⌜ now (clauses .exit)
+        ≡ stores (entryOf (now (p .entry))) (now (clauses .entry)) (literalChain (now (p .entry)) (firstLiteral (now (p .entry)) (rule .0))) ⌝ }
 {
     let mut literal = read::first_literal(p, rule);
     while literal.0 != 0 {
@@ -61,7 +65,10 @@ fn put_literals(p: &[u8], places: &[u8; MAX_RECORDS], clauses: &mut [u32], rule:
 // Fills the array with the clauses of an accepted plan. It is all 0 before, and has a place for each record or more. `places` are those of the named
 // belts (plan::named::named_places). Each literal is read once.
 pub fn decode(p: &[u8], places: &[u8; MAX_RECORDS], clauses: &mut [u32])
-    requires { ⌜ Accepted (now p) × (now places ≡ namedPlaces (now p)) × (now clauses ≡ replicate (length (now clauses)) 0) × (records (now p) ≤ length (now clauses)) ⌝ }
+    requires { ⌜ Accepted (now p)
+        × (now places ≡ namedPlaces (now p))
+        × (now clauses ≡ replicate (length (now clauses)) 0)
+        × (records (now p) ≤ length (now clauses)) ⌝ }
     ensures { λ v. ⌜ now (clauses .exit) ≡ clausesIn (length (now (clauses .entry))) (now (p .entry)) ⌝ }
 {
     let mut rule = read::first_rule(p);

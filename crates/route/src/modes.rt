@@ -20,7 +20,11 @@ pub enum Lowest {
 // The lowest setting that works and has the modes above this one as `setting` has them: this mode and the lower ones are tried, the highest first.
 // `belts` is the mask of the named belts on the route. ModeId(0) says that every mode is set.
 fn settle(p: &[u8], clauses: &[u32], belts: u64, mode: ModeId, setting: u16) -> Lowest
-    requires { ⌜ Accepted (now p) × Clauses (now p) (now clauses) × OfNamed (now p) belts × (mode .0 ≤ maxModes) × (setting + 2 ^ mode .0 ≤ 2 ^ maxModes) ⌝ }
+    requires { ⌜ Accepted (now p)
+        × Clauses (now p) (now clauses)
+        × OfNamed (now p) belts
+        × (mode .0 ≤ maxModes)
+        × (setting + 2 ^ mode .0 ≤ 2 ^ maxModes) ⌝ }
     ensures { λ v. ⌜ settingIn v ≡ find (allMet (planOf (now (p .entry)) .rules) (hasBelt (now (p .entry)) belts)) (run setting (2 ^ mode .0)) ⌝ }
 {
     if mode.0 == 0 {
@@ -36,7 +40,12 @@ fn settle(p: &[u8], clauses: &[u32], belts: u64, mode: ModeId, setting: u16) -> 
 
 // The same, where a mode is left: off is tried before on.
 fn try_both(p: &[u8], clauses: &[u32], belts: u64, mode: ModeId, setting: u16) -> Lowest
-    requires { ⌜ Accepted (now p) × Clauses (now p) (now clauses) × OfNamed (now p) belts × (1 ≤ mode .0) × (mode .0 ≤ maxModes) × (setting + 2 ^ mode .0 ≤ 2 ^ maxModes) ⌝ }
+    requires { ⌜ Accepted (now p)
+        × Clauses (now p) (now clauses)
+        × OfNamed (now p) belts
+        × (1 ≤ mode .0)
+        × (mode .0 ≤ maxModes)
+        × (setting + 2 ^ mode .0 ≤ 2 ^ maxModes) ⌝ }
     ensures { λ v. ⌜ settingIn v ≡ find (allMet (planOf (now (p .entry)) .rules) (hasBelt (now (p .entry)) belts)) (run setting (2 ^ mode .0)) ⌝ }
 {
     let lower = mode.0 - 1;

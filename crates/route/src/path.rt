@@ -91,7 +91,10 @@ pub fn are_belts(p: &[u8], route: Route) -> bool
 
 // Whether the belts lead from s to t, each leaving where the last arrived.
 pub fn connects(p: &[u8], route: Route, s: usize, t: usize) -> bool
-    requires { ⌜ Accepted (now p) × Known (now p) route × (1 ≤ s) × (s ≤ planOf (now p) .junctions) ⌝ }
+    requires { ⌜ Accepted (now p)
+        × Known (now p) route
+        × (1 ≤ s)
+        × (s ≤ planOf (now p) .junctions) ⌝ }
     ensures { λ v. ⌜ v ≡ connects s t (routeIn (now (p .entry)) route) ⌝ }
 {
     let mut at = s;
@@ -109,8 +112,10 @@ pub fn connects(p: &[u8], route: Route, s: usize, t: usize) -> bool
 
 // The cost of the route, the sum of its belts' costs.
 pub fn cost(p: &[u8], route: Route) -> u64
-    requires { ⌜ Accepted (now p) × Known (now p) route ⌝ }
-    ensures { λ v. ⌜ (v ≡ cost (routeIn (now (p .entry)) route)) × (v < costLimit) ⌝ }
+    requires { ⌜ Accepted (now p)
+        × Known (now p) route ⌝ }
+    ensures { λ v. ⌜ (v ≡ cost (routeIn (now (p .entry)) route))
+        × (v < costLimit) ⌝ }
 {
     let mut sum = 0;
     let mut k = 0;
@@ -145,7 +150,9 @@ fn lower(a: Route, b: Route) -> bool
 
 // Whether route a comes before route b: it costs less, or as much and at the first difference its belt index is lower.
 pub fn before(p: &[u8], a: Route, b: Route) -> bool
-    requires { ⌜ Accepted (now p) × Known (now p) a × Known (now p) b ⌝ }
+    requires { ⌜ Accepted (now p)
+        × Known (now p) a
+        × Known (now p) b ⌝ }
     ensures { λ v. ⌜ v ≡ before (routeIn (now (p .entry)) a) (routeIn (now (p .entry)) b) ⌝ }
 {
     let cost_a = cost(p, a);

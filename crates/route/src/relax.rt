@@ -80,7 +80,9 @@ fn way_over(
     belt: BeltId,
     forbidden: bool,
 ) -> u64
-    requires { ⌜ Accepted (now p) × IsBelt (now p) (belt .0) × ((j : ℕ) → getD (costsIn (now ways)) j 0 ≤ costLimit) ⌝ }
+    requires { ⌜ Accepted (now p)
+        × IsBelt (now p) (belt .0)
+        × ((j : ℕ) → getD (costsIn (now ways)) j 0 ≤ costLimit) ⌝ }
     ensures { λ v. ⌜ v ≡ wayOver (costsIn (now (ways .entry))) nearest forbidden (beltAt (now (p .entry)) (belt .0)) ⌝ }
 {
     let to = read::leads_to(p, belt);
@@ -105,7 +107,13 @@ fn by_required(
     u: usize,
     hit: u64,
 ) -> Way
-    requires { ⌜ Accepted (now p) × (now belts ≡ numbersOf (named (planOf (now p)))) × ((j : ℕ) → getD (costsIn (now ways)) j 0 ≤ costLimit) × (u ≤ planOf (now p) .junctions) × OfNamed (now p) (fixings .required) × (hit ≡ bitAnd (getD (exitsOf (now p)) u 0) (fixings .required)) × (hit ≡ 0 → ⊥) ⌝ }
+    requires { ⌜ Accepted (now p)
+        × (now belts ≡ numbersOf (named (planOf (now p))))
+        × ((j : ℕ) → getD (costsIn (now ways)) j 0 ≤ costLimit)
+        × (u ≤ planOf (now p) .junctions)
+        × OfNamed (now p) (fixings .required)
+        × (hit ≡ bitAnd (getD (exitsOf (now p)) u 0) (fixings .required))
+        × (hit ≡ 0 → ⊥) ⌝ }
     ensures { λ v. ⌜ v ≡ wayBy (subproblemIn (now (p .entry)) fixings) (costsIn (now (ways .entry))) nearest noWay (leaving (planOf (now (p .entry))) u) ⌝ }
 {
     let k = u64::trailing_zeros(hit) as usize;
@@ -146,7 +154,11 @@ fn cheapest(
     nearest: usize,
     u: usize,
 ) -> Way
-    requires { ⌜ Lent (now p) (now places) (now ends) (now arcs) × ((j : ℕ) → getD (costsIn (now ways)) j 0 ≤ costLimit) × (1 ≤ u) × (u ≤ planOf (now p) .junctions) × (any (isRequired (subproblemIn (now p) fixings)) (leaving (planOf (now p)) u) ≡ false) ⌝ }
+    requires { ⌜ Lent (now p) (now places) (now ends) (now arcs)
+        × ((j : ℕ) → getD (costsIn (now ways)) j 0 ≤ costLimit)
+        × (1 ≤ u)
+        × (u ≤ planOf (now p) .junctions)
+        × (any (isRequired (subproblemIn (now p) fixings)) (leaving (planOf (now p)) u) ≡ false) ⌝ }
     ensures { λ v. ⌜ v ≡ wayBy (subproblemIn (now (p .entry)) fixings) (costsIn (now (ways .entry))) nearest noWay (leaving (planOf (now (p .entry))) u) ⌝ }
 {
     let mut best = NO_WAY;
@@ -185,7 +197,13 @@ fn way_from(
     nearest: usize,
     u: usize,
 ) -> Way
-    requires { ⌜ Lent (now p) (now places) (now ends) (now arcs) × (now exits ≡ exitsOf (now p)) × ((j : ℕ) → getD (costsIn (now ways)) j 0 ≤ costLimit) × (1 ≤ u) × (u ≤ planOf (now p) .junctions) × OfNamed (now p) (fixings .required) × (now belts ≡ numbersOf (named (planOf (now p)))) ⌝ }
+    requires { ⌜ Lent (now p) (now places) (now ends) (now arcs)
+        × (now exits ≡ exitsOf (now p))
+        × ((j : ℕ) → getD (costsIn (now ways)) j 0 ≤ costLimit)
+        × (1 ≤ u)
+        × (u ≤ planOf (now p) .junctions)
+        × OfNamed (now p) (fixings .required)
+        × (now belts ≡ numbersOf (named (planOf (now p)))) ⌝ }
     ensures { λ v. ⌜ v ≡ wayBy (subproblemIn (now (p .entry)) fixings) (costsIn (now (ways .entry))) nearest noWay (leaving (planOf (now (p .entry))) u) ⌝ }
 {
     let hit = exits[u] & fixings.required;
@@ -220,7 +238,9 @@ fn ways_to(
         × (bound < costLimit)
         × (now ways ≡ replicate junctionPlaces 0)
         × (now belts ≡ numbersOf (named (planOf (now p)))) ⌝ }
-    ensures { λ v. ⌜ (v ≡ wayCost (atMost bound (wayIn (now (p .entry)) fixings t s))) × (v ≤ bound → Guides (now (p .entry)) fixings t s (firstsIn (now (ways .exit)))) × Spared s t (now (ways .exit)) ⌝ }
+    ensures { λ v. ⌜ (v ≡ wayCost (atMost bound (wayIn (now (p .entry)) fixings t s)))
+        × (v ≤ bound → Guides (now (p .entry)) fixings t s (firstsIn (now (ways .exit))))
+        × Spared s t (now (ways .exit)) ⌝ }
 {
     let mut nearest = t;
     let mut u = t;
@@ -273,8 +293,15 @@ fn walk(
     t: usize,
     kept: &mut [u16; MAX_STEPS],
 ) -> Summary
-    requires { ⌜ Accepted (now p) × (now places ≡ namedPlaces (now p)) × (1 ≤ s) × (t ≤ planOf (now p) .junctions) × (cost ≡ costLimit → ⊥) × (cost ≡ wayCost (wayIn (now p) fixings t s)) × Guides (now p) fixings t s (firstsIn (now ways)) ⌝ }
-    ensures { λ v. ⌜ (v ≡ summaryAs (now (p .entry)) (wayIn (now (p .entry)) fixings t s)) × (now (kept .exit) ≡ keptOf (wayIn (now (p .entry)) fixings t s) (now (kept .entry))) ⌝ }
+    requires { ⌜ Accepted (now p)
+        × (now places ≡ namedPlaces (now p))
+        × (1 ≤ s)
+        × (t ≤ planOf (now p) .junctions)
+        × (cost ≡ costLimit → ⊥)
+        × (cost ≡ wayCost (wayIn (now p) fixings t s))
+        × Guides (now p) fixings t s (firstsIn (now ways)) ⌝ }
+    ensures { λ v. ⌜ (v ≡ summaryAs (now (p .entry)) (wayIn (now (p .entry)) fixings t s))
+        × (now (kept .exit) ≡ keptOf (wayIn (now (p .entry)) fixings t s) (now (kept .entry))) ⌝ }
 {
     let mut count = 0;
     let mut seen = 0u64;
@@ -323,8 +350,13 @@ fn inside(exits: &[u64; JUNCTION_PLACES], s: usize, t: usize) -> u64
 // Whether s is not past t, and every required belt leaves some junction from s on and before t. Then the way on from s is the relaxed route, and
 // else there is none.
 fn may_lead(p: &[u8], exits: &[u64; JUNCTION_PLACES], trip: Trip, fixings: Fixings) -> bool
-    requires { ⌜ Accepted (now p) × (now exits ≡ exitsOf (now p)) × (wrongEnds (planOf (now p)) (trip .s) (trip .t) ≡ false) × OfNamed (now p) (fixings .required) ⌝ }
-    ensures { λ v. ⌜ (v ≡ true → (trip .s ≤ trip .t) × (wayIn (now (p .entry)) fixings (trip .t) (trip .s) ≡ relaxed (planOf (now (p .entry))) (trip .s) (trip .t) (subproblemIn (now (p .entry)) fixings))) × (v ≡ false → relaxed (planOf (now (p .entry))) (trip .s) (trip .t) (subproblemIn (now (p .entry)) fixings) ≡ none) ⌝ }
+    requires { ⌜ Accepted (now p)
+        × (now exits ≡ exitsOf (now p))
+        × (wrongEnds (planOf (now p)) (trip .s) (trip .t) ≡ false)
+        × OfNamed (now p) (fixings .required) ⌝ }
+    ensures { λ v. ⌜ (v ≡ true → (trip .s ≤ trip .t) × (wayIn (now (p .entry)) fixings (trip .t) (trip .s)
+        ≡ relaxed (planOf (now (p .entry))) (trip .s) (trip .t) (subproblemIn (now (p .entry)) fixings)))
+        × (v ≡ false → relaxed (planOf (now (p .entry))) (trip .s) (trip .t) (subproblemIn (now (p .entry)) fixings) ≡ none) ⌝ }
 {
     let s = trip.s as usize;
     let t = trip.t as usize;
@@ -372,7 +404,11 @@ pub fn relaxed_route(
         × (bound < costLimit)
         × (now ways ≡ replicate junctionPlaces 0)
         × (now belts ≡ numbersOf (named (planOf (now p)))) ⌝ }
-    ensures { λ v. ⌜ (v ≡ summaryAs (now (p .entry)) (atMost bound (relaxed (planOf (now (p .entry))) (trip .s) (trip .t) (subproblemIn (now (p .entry)) fixings)))) × (now (ways .exit) ≡ now (ways .entry)) × (now (kept .exit) ≡ keptOf (atMost bound (relaxed (planOf (now (p .entry))) (trip .s) (trip .t) (subproblemIn (now (p .entry)) fixings))) (now (kept .entry))) ⌝ }
+    ensures { λ v. ⌜ (v
+        ≡ summaryAs (now (p .entry)) (atMost bound (relaxed (planOf (now (p .entry))) (trip .s) (trip .t) (subproblemIn (now (p .entry)) fixings))))
+        × (now (ways .exit) ≡ now (ways .entry))
+        × (now (kept .exit)
+        ≡ keptOf (atMost bound (relaxed (planOf (now (p .entry))) (trip .s) (trip .t) (subproblemIn (now (p .entry)) fixings))) (now (kept .entry))) ⌝ }
 {
     if !may_lead(p, exits, trip, fixings) {
         return nothing();
@@ -402,7 +438,8 @@ pub fn relaxed_route(
 
 // The indices of an accepted plan's named belts as bare numbers, for `relaxed_route`. `list` is what plan::named::named_belts answers.
 pub fn numbers(p: &[u8], list: Named) -> [u16; MAX_NAMED]
-    requires { ⌜ Accepted (now p) × (list .belts ≡ listed (named (planOf (now p)))) ⌝ }
+    requires { ⌜ Accepted (now p)
+        × (list .belts ≡ listed (named (planOf (now p)))) ⌝ }
     ensures { λ v. ⌜ v ≡ numbersOf (named (planOf (now (p .entry)))) ⌝ }
 {
     let mut belts = [0u16; MAX_NAMED];
@@ -423,7 +460,9 @@ fn exits_at(
     arcs: &[u64],
     u: usize,
 ) -> u64
-    requires { ⌜ Lent (now p) (now places) (now ends) (now arcs) × (1 ≤ u) × (u ≤ planOf (now p) .junctions) ⌝ }
+    requires { ⌜ Lent (now p) (now places) (now ends) (now arcs)
+        × (1 ≤ u)
+        × (u ≤ planOf (now p) .junctions) ⌝ }
     ensures { λ v. ⌜ v ≡ maskOf (now (p .entry)) (namesOf (leaving (planOf (now (p .entry))) u)) ⌝ }
 {
     let mut mask = 0u64;

@@ -29,7 +29,9 @@ fn is_true(on: u64, code: u32) -> bool
 // Whether every rule has a literal that holds, where the named belts of the mask `belts` are on the route. The scan of a rule stops at its first
 // literal that holds.
 pub fn all_met(p: &[u8], clauses: &[u32], belts: u64, setting: u16) -> bool
-    requires { ⌜ Accepted (now p) × Clauses (now p) (now clauses) × OfNamed (now p) belts ⌝ }
+    requires { ⌜ Accepted (now p)
+        × Clauses (now p) (now clauses)
+        × OfNamed (now p) belts ⌝ }
     ensures { λ v. ⌜ v ≡ allMet (planOf (now (p .entry)) .rules) (hasBelt (now (p .entry)) belts) setting ⌝ }
 {
     let on = belts + (setting as u64) * MODE_1;
@@ -52,7 +54,8 @@ pub fn all_met(p: &[u8], clauses: &[u32], belts: u64, setting: u16) -> bool
 
 // Whether every rule is met by the route under the setting.
 pub fn met_by(p: &[u8], route: Route, setting: u16) -> bool
-    requires { ⌜ Accepted (now p) × Known (now p) route ⌝ }
+    requires { ⌜ Accepted (now p)
+        × Known (now p) route ⌝ }
     ensures { λ v. ⌜ v ≡ allMet (planOf (now (p .entry)) .rules) (passes (routeIn (now (p .entry)) route)) setting ⌝ }
 {
     let places = named::named_places(p);

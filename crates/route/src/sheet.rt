@@ -125,7 +125,8 @@ fn read_route(h: &[u8]) -> Route
 
 // The number as 64 bits. The contract tells the bound by which the sum of `read_cost` fits.
 fn wide(x: u16) -> u64
-    ensures { λ v. ⌜ (v ≡ x) × (v < fieldLimit) ⌝ }
+    ensures { λ v. ⌜ (v ≡ x)
+        × (v < fieldLimit) ⌝ }
 {
     x as u64
 }
@@ -190,7 +191,8 @@ pub fn write(out: &mut [u8], sheet: Sheet) -> usize
     requires { ⌜ (sheet .route .count ≤ maxSteps)
         × (sheet .cost < costLimit)
         × (recordBytes * sheet .route .count + recordBytes ≤ length (now out)) ⌝ }
-    ensures { λ v. ⌜ (v ≡ length (bytesOf sheet)) × (now (out .exit) ≡ bytesOf sheet ++ drop v (now (out .entry))) ⌝ }
+    ensures { λ v. ⌜ (v ≡ length (bytesOf sheet))
+        × (now (out .exit) ≡ bytesOf sheet ++ drop v (now (out .entry))) ⌝ }
 {
     let route = sheet.route;
     put_head(out, route.count, sheet.cost, sheet.setting);

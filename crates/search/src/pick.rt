@@ -33,7 +33,9 @@ const ALL: u64 = 18446744073709551615;
 
 // The named belts in a rule, as a mask.
 fn in_rule(p: &[u8], places: &[u8; MAX_RECORDS], rule: RuleId) -> u64
-    requires { ⌜ Accepted (now p) × (now places ≡ namedPlaces (now p)) × IsRule (now p) (rule .0) ⌝ }
+    requires { ⌜ Accepted (now p)
+        × (now places ≡ namedPlaces (now p))
+        × IsRule (now p) (rule .0) ⌝ }
     ensures { λ v. ⌜ v ≡ gatheredIn (now (places .entry)) 0 (beltsIn (ruleAt (now (p .entry)) (rule .0))) ⌝ }
 {
     let mut mask = 0u64;
@@ -71,7 +73,9 @@ fn with_rule(rules: [u16; MAX_NAMED], count: usize, mask: u64) -> [u16; MAX_NAME
 // The counts of an accepted plan. `places` are those of its named belts (plan::named::named_places), of which there are `count`. Each
 // rule is read once.
 pub fn rule_counts(p: &[u8], places: &[u8; MAX_RECORDS], count: usize) -> Counts
-    requires { ⌜ Accepted (now p) × (now places ≡ namedPlaces (now p)) × (count ≡ length (named (planOf (now p)))) ⌝ }
+    requires { ⌜ Accepted (now p)
+        × (now places ≡ namedPlaces (now p))
+        × (count ≡ length (named (planOf (now p)))) ⌝ }
     ensures { λ v. ⌜ v ≡ countsOf (now (p .entry)) ⌝ }
 {
     let mut rules = [0u16; MAX_NAMED];
@@ -153,7 +157,9 @@ fn lowest_on(fixings: Fixings, count: usize, mask: u64) -> Place
 pub fn picked(p: &[u8], counts: Counts, pick: u64, fixings: Fixings, mask: u64) -> Place
     requires { ⌜ Accepted (now p)
         × (counts ≡ countsOf (now p)) ⌝ }
-    ensures { λ v. ⌜ v ≡ pickedPlace (named (planOf (now (p .entry)))) (pickOf pick (planOf (now (p .entry))) (subproblemIn (now (p .entry)) fixings) (hasBelt (now (p .entry)) mask)) ⌝ }
+    ensures { λ v. ⌜ v
+        ≡ pickedPlace (named (planOf (now (p .entry))))
+        (pickOf pick (planOf (now (p .entry))) (subproblemIn (now (p .entry)) fixings) (hasBelt (now (p .entry)) mask)) ⌝ }
 {
     if pick == 0 {
         return lowest(fixings, counts.named);

@@ -28,7 +28,9 @@ pub fn run(
     query: Query,
 ) -> Stepped
     requires { ⌜ Ready (now p) (now places) (now belts) (now ends) (now arcs) (now exits) (now clauses) counts query ⌝ }
-    ensures { λ v. ⌜ (turnIn (now (p .entry)) v ≡ run (problemIn (now (p .entry)) query) (query .budget)) × Valid (now (p .entry)) (v .search) × (v .bound ≡ boundIn (now (p .entry)) (v .search)) ⌝ }
+    ensures { λ v. ⌜ (turnIn (now (p .entry)) v ≡ run (problemIn (now (p .entry)) query) (query .budget))
+        × Valid (now (p .entry)) (v .search)
+        × (v .bound ≡ boundIn (now (p .entry)) (v .search)) ⌝ }
 {
     let mut ways = [0u64; JUNCTION_PLACES];
     let mut kept = [0u16; MAX_STEPS];

@@ -188,7 +188,11 @@ impl Search {
             × (bound ≡ boundIn (now p) self)
             × (now ways ≡ replicate junctionPlaces 0)
             × (length (now kept) ≡ maxSteps) ⌝ }
-        ensures { λ v. ⌜ (turnIn (now (p .entry)) v ≡ stepIn (now (p .entry)) query self) × Valid (now (p .entry)) (v .search) × (v .bound ≡ boundIn (now (p .entry)) (v .search)) × (now (ways .exit) ≡ now (ways .entry)) × (now (kept .exit) ≡ keptIn (now (p .entry)) query self (now (kept .entry))) ⌝ }
+        ensures { λ v. ⌜ (turnIn (now (p .entry)) v ≡ stepIn (now (p .entry)) query self)
+            × Valid (now (p .entry)) (v .search)
+            × (v .bound ≡ boundIn (now (p .entry)) (v .search))
+            × (now (ways .exit) ≡ now (ways .entry))
+            × (now (kept .exit) ≡ keptIn (now (p .entry)) query self (now (kept .entry))) ⌝ }
     {
         if self.count == 0 || self.opened == query.budget {
             return Stepped {

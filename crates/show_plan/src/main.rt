@@ -36,7 +36,8 @@ fn put_belt(
     j: usize,
     belt: BeltId,
 ) -> Gathered
-    requires { ⌜ Accepted (now p) × IsBelt (now p) (belt .0) ⌝ }
+    requires { ⌜ Accepted (now p)
+        × IsBelt (now p) (belt .0) ⌝ }
 {
     let place = plan::named::place_of(places, belt);
     let name = put_number(room, gathered, b"belt ", belt.0 as u64);
@@ -58,7 +59,9 @@ fn put_leaving(
     places: &[u8; MAX_RECORDS],
     j: usize,
 ) -> Gathered
-    requires { ⌜ Accepted (now p) × (1 ≤ j) × (j ≤ planOf (now p) .junctions) ⌝ }
+    requires { ⌜ Accepted (now p)
+        × (1 ≤ j)
+        × (j ≤ planOf (now p) .junctions) ⌝ }
 {
     let mut now = gathered;
     let mut belt = plan::read::first_belt(p, j);
@@ -114,7 +117,8 @@ fn put_literal(room: &mut Room, gathered: Gathered, literal: Literal) -> Gathere
 
 // The literals of a chain; before every one behind the first stands `or`.
 fn put_literals(room: &mut Room, gathered: Gathered, p: &[u8], first: LiteralId) -> Gathered
-    requires { ⌜ Accepted (now p) × ((first .0 ≡ 0 → ⊥) → IsLiteral (now p) (first .0)) ⌝ }
+    requires { ⌜ Accepted (now p)
+        × ((first .0 ≡ 0 → ⊥) → IsLiteral (now p) (first .0)) ⌝ }
 {
     let mut now = gathered;
     let mut literal = first;

@@ -35,7 +35,8 @@ fn appended(value: u64, digit: u8) -> u64
 
 // The next number behind `at`.
 pub fn next_number(text: &[u8], at: usize) -> Number
-    ensures { λ r. ⌜ (r ≡ numberAt (now (text .entry)) at) × (r .found ≡ true → (at < r .next) × (r .next ≤ length (now (text .entry)))) ⌝ }
+    ensures { λ r. ⌜ (r ≡ numberAt (now (text .entry)) at)
+        × (r .found ≡ true → (at < r .next) × (r .next ≤ length (now (text .entry)))) ⌝ }
 {
     let mut found = false;
     let mut value = 0;
@@ -95,7 +96,8 @@ pub fn behind(text: &[u8], at: usize, sign: u8) -> usize
 
 // Where the next line begins.
 pub fn next_line(text: &[u8], at: usize) -> usize
-    ensures { λ v. ⌜ (v ≡ at + lineLength (drop at (now (text .entry)))) × (at < length (now (text .entry)) → at < v) ⌝ }
+    ensures { λ v. ⌜ (v ≡ at + lineLength (drop at (now (text .entry))))
+        × (at < length (now (text .entry)) → at < v) ⌝ }
 {
     let mut i = at;
     while i < text.len() {

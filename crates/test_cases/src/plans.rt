@@ -27,7 +27,8 @@ pub struct Plan {
 
 // A plan of no bytes.
 pub fn none() -> Plan
-    ensures { λ v. ⌜ (v .bytes ≡ blank) × (v .size ≡ 0) ⌝ }
+    ensures { λ v. ⌜ (v .bytes ≡ blank)
+        × (v .size ≡ 0) ⌝ }
 {
     let bytes = [0u8; CASE_BYTES];
     Plan {
@@ -127,7 +128,8 @@ pub fn read(text: &[u8], at: usize) -> Plan
 
 // The plan with the records changed that the line has behind `at`.
 pub fn changed(plan: Plan, text: &[u8], at: usize) -> Plan
-    ensures { λ v. ⌜ (v .bytes ≡ changed (plan .bytes) (numbersIn (drop at (now (text .entry))))) × (v .size ≡ plan .size) ⌝ }
+    ensures { λ v. ⌜ (v .bytes ≡ changed (plan .bytes) (numbersIn (drop at (now (text .entry)))))
+        × (v .size ≡ plan .size) ⌝ }
 {
     let mut bytes = plan.bytes;
     lines::change_records(&mut bytes, text, at);

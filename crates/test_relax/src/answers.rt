@@ -94,7 +94,10 @@ fn print_relaxed(summary: Summary, kept: &[u16; MAX_STEPS])
 
 // Prints the relaxed route of a subproblem, over what is made of the plan for it.
 fn print_over(p: &[u8], places: &[u8; MAX_RECORDS], trip: Trip, fixings: Fixings)
-    requires { ⌜ Accepted (now p) × (now places ≡ namedPlaces (now p)) × (wrongEnds (planOf (now p)) (trip .s) (trip .t) ≡ false) × OfNamed (now p) (fixings .required) ⌝ }
+    requires { ⌜ Accepted (now p)
+        × (now places ≡ namedPlaces (now p))
+        × (wrongEnds (planOf (now p)) (trip .s) (trip .t) ≡ false)
+        × OfNamed (now p) (fixings .required) ⌝ }
 {
     let mut arcs = [0u64; MAX_RECORDS];
     let ends = plan::adjacency::decode(p, &mut arcs);
@@ -122,7 +125,9 @@ fn print_over(p: &[u8], places: &[u8; MAX_RECORDS], trip: Trip, fixings: Fixings
 // The relaxed route between two junctions of an accepted plan. The places of named belts are below their count, so no mask of theirs goes
 // beyond it.
 fn print_fixed(p: &[u8], places: &[u8; MAX_RECORDS], trip: Trip, required: Mask, forbidden: Mask)
-    requires { ⌜ Accepted (now p) × (now places ≡ namedPlaces (now p)) × (wrongEnds (planOf (now p)) (trip .s) (trip .t) ≡ false) ⌝ }
+    requires { ⌜ Accepted (now p)
+        × (now places ≡ namedPlaces (now p))
+        × (wrongEnds (planOf (now p)) (trip .s) (trip .t) ≡ false) ⌝ }
 {
     let named = plan::named::named_belts(p);
     if required.named && forbidden.named && within(required, named.count) {
@@ -138,7 +143,8 @@ fn print_fixed(p: &[u8], places: &[u8; MAX_RECORDS], trip: Trip, required: Mask,
 
 // The same, with the fixings that the text has behind `at`.
 fn print_route(p: &[u8], trip: Trip, text: &[u8], at: usize)
-    requires { ⌜ Accepted (now p) × (wrongEnds (planOf (now p)) (trip .s) (trip .t) ≡ false) ⌝ }
+    requires { ⌜ Accepted (now p)
+        × (wrongEnds (planOf (now p)) (trip .s) (trip .t) ≡ false) ⌝ }
 {
     let places = plan::named::named_places(p);
     let required = mask_of(&places, text, lines::behind(text, at, b'+'));

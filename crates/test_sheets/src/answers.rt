@@ -70,7 +70,8 @@ fn print_sheet(p: &[u8], trip: Trip, out: &[u8], n: usize) {
 
 // Writes a sheet into bytes that are 170, more than it takes.
 fn print_written(p: &[u8], trip: Trip, sheet: Sheet)
-    requires { ⌜ (sheet .route .count ≤ maxSteps) × (sheet .cost < costLimit) ⌝ }
+    requires { ⌜ (sheet .route .count ≤ maxSteps)
+        × (sheet .cost < costLimit) ⌝ }
 {
     let mut out = [170u8; 3100];
     let n = route::sheet::write(&mut out, sheet);
@@ -79,7 +80,8 @@ fn print_written(p: &[u8], trip: Trip, sheet: Sheet)
 
 // The lowest setting of a route.
 fn lowest_of(p: &[u8], r: Route) -> Lowest
-    requires { ⌜ Accepted (now p) × Known (now p) r ⌝ }
+    requires { ⌜ Accepted (now p)
+        × Known (now p) r ⌝ }
 {
     let places = plan::named::named_places(p);
     let mut clauses = [0u32; MAX_RECORDS];
@@ -89,7 +91,8 @@ fn lowest_of(p: &[u8], r: Route) -> Lowest
 
 // The lowest setting of a route, and its sheet.
 fn print_setting(p: &[u8], trip: Trip, r: Route)
-    requires { ⌜ Accepted (now p) × Known (now p) r ⌝ }
+    requires { ⌜ Accepted (now p)
+        × Known (now p) r ⌝ }
 {
     let lowest = lowest_of(p, r);
     match lowest {
@@ -114,7 +117,8 @@ fn print_setting(p: &[u8], trip: Trip, r: Route)
 
 // The same, where the belts are the plan's.
 fn print_belts(p: &[u8], trip: Trip, r: Route)
-    requires { ⌜ Accepted (now p) × (r .count ≤ maxSteps) ⌝ }
+    requires { ⌜ Accepted (now p)
+        × (r .count ≤ maxSteps) ⌝ }
 {
     if !route::path::are_belts(p, r) {
         io::write_all(1, b" no belts");
