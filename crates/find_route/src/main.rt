@@ -62,7 +62,7 @@ fn asked() -> Wanted {
 fn answer(p: &[u8], query: Query, sheet: &[u8], place: Place) {
     let mut out = [0u8; MAX_SHEET_BYTES];
     let answer = entry::search(p, query, &mut out);
-    let reply = entry::numbers(answer);
+    let reply = entry::reply_of(answer);
     let size = reply.size;
     if reply.number == 0 {
         if sheets::write(sheet, &out[..size], place) {

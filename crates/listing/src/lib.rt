@@ -100,7 +100,7 @@ pub fn line_of(answer: Answer, out: &[u8]) -> Line
     ensures { λ v. ⌜ (v ≡ lineOf answer (now (out .entry)))
         × (v .sheet .route .count ≤ maxSteps) ⌝ }
 {
-    let reply = entry::numbers(answer);
+    let reply = entry::reply_of(answer);
     let sheet = sheet_at(out, reply.size);
     Line {
         number: reply.number,

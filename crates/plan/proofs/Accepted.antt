@@ -91,7 +91,7 @@ module _ (b : List ℕ) where
 
 -- there are records beyond the junctions
 pub accepted-room : {b : List ℕ} → Accepted b → junctions b < records b
-accepted-room {b} ok = header b (accepted-passed b (ok .unrefused) .0 .0 .0 .1) .room
+accepted-room {b} ok = header b (accepted-passed b (ok .unrefused) .0 .0 .0 .1) .junctions-fit
 
 -- a record below N is there
 pub accepted-there : {b : List ℕ} → Accepted b → (i : ℕ) → i < records b → 12 * i + 12 ≤ length b

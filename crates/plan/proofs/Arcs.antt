@@ -1,17 +1,17 @@
 -- Belts side by side (specs/Adjacency.antt): what the readers of the arrays go by, and the code that fills them.
 --
---   arc-parts          the parts of a belt's number are the belt's
+--   word-parts         the parts of a belt's word are the belt's
 --   order-few          at most 2,047 belts are in order
 --   order-fit          there are no more of them than records of the plan
 --   order-next         how many belts leave junctions up to u, one junction further
---   ends-at            the array of ends has that number for every junction
+--   offsets-at         the array of offsets has that number for every junction
 --   arcs-fit           an array that has all arcs is no shorter than the belts in order
 --   arcs-of            the arcs of a junction are its belts
 --   arcsTo, endsTo     the arrays, filled for the junctions up to u
 --   length-arcs        there are n arcs, if the belts in order are no more
 --   arcs-none, ends-none
 --                      before the first junction the arrays are fresh
---   arcs-more, ends-more
+--   arcs-more, offsets-more
 --                      one junction further
 --   arcs-all, ends-all for all junctions they are the whole arrays
 --   arcs-lent          what an array of n numbers holds, by its own length, if there are at most n records
@@ -30,12 +30,12 @@ use lib.Seq.{take-at, drop-at, drop-append-add, set-at, append-snoc}
 use lib.Dec.{eqb, leb}
 use borrow.Author.Tests.{eqb-true, leb-true, leb-false}
 use Rattle.plan.specs.Bounds.{maxJunctions, maxRecords}
-use Rattle.plan.specs.Lists.{counted, count, run, upto}
+use Rattle.plan.specs.Lists.{countBy, count, iota, upto}
 use Rattle.plan.specs.Records.{kind, junctions, records}
 use Rattle.plan.specs.Plan.{Belt, Plan, planOf, beltAt, beltRecords, leaving}
 use Rattle.plan.specs.Reading.{Accepted, Bytes}
-use Rattle.plan.specs.Adjacency.{arcOf, arcCost, arcHead, arcName, inOrder, arcsIn, endsOf}
-use Rattle.plan.proofs.Lists.{length-run, run-split, getD-run}
+use Rattle.plan.specs.Adjacency.{wordOf, wordCost, wordHead, wordIndex, inOrder, arcsIn, offsetsOf}
+use Rattle.plan.proofs.Lists.{length-iota, iota-split, getD-iota}
 use Rattle.plan.proofs.Counts.{length-keep, count-few}
 use Rattle.plan.proofs.Forms.{few, sized}
 use Rattle.plan.proofs.Places.{drop-replicate}
@@ -45,9 +45,9 @@ use Rattle.plan.proofs.Reading.{plan-sizes, belt-of, belt-low, belt-end
 -- ---- one belt
 
 module _ {b : List ℕ} (ok : Accepted b) (bytes : Bytes b) where
-  pub arc-parts : (e : Belt) → List·Memᴰ e (planOf b .belts) → (arcCost (arcOf e) ≡ e .cost) × (arcHead (arcOf e) ≡ e .leads) × (arcName (arcOf e) ≡ e .name)
-  arc-parts e m =
-      let name = belt-low ok (e .name) (belt-of ok e m .0) .2 in
+  pub word-parts : (e : Belt) → List·Memᴰ e (planOf b .belts) → (wordCost (wordOf e) ≡ e .cost) × (wordHead (wordOf e) ≡ e .leads) × (wordIndex (wordOf e) ≡ e .index)
+  word-parts e m =
+      let index = belt-low ok (e .index) (belt-of ok e m .0) .2 in
       let leads = belt-ends ok e m .2 in
       let top = plan-sizes ok .1 in
       let cost = belts-cost ok bytes e m in
@@ -70,7 +70,7 @@ one-further u (e ∷ es) = go (leb (e .leaves) u) (eqb (e .leaves) (suc u)) (leb
     both : ℕ
     both = count (λ (x : Belt). leb (x .leaves) (suc u)) es
 
-    go : (s t v : Bool) → leb (e .leaves) u ≡ s → eqb (e .leaves) (suc u) ≡ t → leb (e .leaves) (suc u) ≡ v → low + next ≤ both → counted s low + counted t next ≤ counted v both
+    go : (s t v : Bool) → leb (e .leaves) u ≡ s → eqb (e .leaves) (suc u) ≡ t → leb (e .leaves) (suc u) ≡ v → low + next ≤ both → countBy s low + countBy t next ≤ countBy v both
     go false false true p q r h = omega arith
     go false false false p q r h = omega arith
     go true false true p q r h = omega arith
@@ -102,7 +102,7 @@ module _ {b : List ℕ} (ok : Accepted b) where
   belts-few =
       let all = upto (suc (junctions b)) (records b) in
       let isBelt : ℕ → Bool = λ (r : ℕ). eqb (kind b r) 2 in
-      omega (arith, length-map (beltRecords b) (beltAt b), length-keep isBelt all, count-few isBelt all, length-run (suc (junctions b)) (records b - suc (junctions b)))
+      omega (arith, length-map (beltRecords b) (beltAt b), length-keep isBelt all, count-few isBelt all, length-iota (suc (junctions b)) (records b - suc (junctions b)))
 
   order-most : (u : ℕ) → length (inOrder (planOf b) u) ≤ records b - suc (junctions b)
   order-most u = omega (arith, order-count (planOf b) u, count-few (λ (e : Belt). leb (e .leaves) u) (planOf b .belts), belts-few)
@@ -116,15 +116,15 @@ module _ {b : List ℕ} (ok : Accepted b) where
   pub order-next : (u : ℕ) → length (inOrder (planOf b) (suc u)) ≡ length (inOrder (planOf b) u) + length (leaving (planOf b) (suc u))
   order-next u = length-append (inOrder (planOf b) u) (leaving (planOf b) (suc u))
 
-  pub ends-at : (u : ℕ) → u ≤ planOf b .junctions → getD (endsOf (planOf b)) u 0 ≡ length (inOrder (planOf b) u)
-  unfolding endsOf
-  ends-at u l =
+  pub offsets-at : (u : ℕ) → u ≤ planOf b .junctions → getD (offsetsOf (planOf b)) u 0 ≡ length (inOrder (planOf b) u)
+  unfolding offsetsOf
+  offsets-at u l =
       let p = planOf b in
-      let ends : ℕ → ℕ = λ (v : ℕ). length (inOrder p v) in
+      let offsets : ℕ → ℕ = λ (v : ℕ). length (inOrder p v) in
       let n = suc (p .junctions) - 0 in
-      let size = length-map (run 0 n) ends ∙ length-run 0 n in
+      let size = length-map (iota 0 n) offsets ∙ length-iota 0 n in
       let e : 0 + u ≡ u = omega arith in
-      List·getD-append (map ends (run 0 n)) (replicate (maxJunctions - p .junctions) 0) 0 u (omega arith) ∙ getD-run ends 0 n u 0 (omega arith) ∙ ap ends e
+      List·getD-append (map offsets (iota 0 n)) (replicate (maxJunctions - p .junctions) 0) 0 u (omega arith) ∙ getD-iota offsets 0 n u 0 (omega arith) ∙ ap offsets e
 
   pub arcs-fit : (n : ℕ) → length (arcsIn n (planOf b)) ≡ n → (u : ℕ) → u ≤ planOf b .junctions → length (inOrder (planOf b) u) ≤ n
   unfolding arcsIn
@@ -134,10 +134,10 @@ module _ {b : List ℕ} (ok : Accepted b) where
       let (es, q) = order-rest p u (p .junctions) l in
       let fresh = replicate {A = ℕ} (n - length all) 0 in
       let more = ap length q in
-      omega (arith, size, length-append (map arcOf all) fresh, length-map all arcOf, length-replicate {A = ℕ} (n - length all) 0, more, length-append (inOrder p u) es)
+      omega (arith, size, length-append (map wordOf all) fresh, length-map all wordOf, length-replicate {A = ℕ} (n - length all) 0, more, length-append (inOrder p u) es)
 
   pub arcs-of : (n u : ℕ) → suc u ≤ planOf b .junctions
-      → take (length (leaving (planOf b) (suc u))) (drop (length (inOrder (planOf b) u)) (arcsIn n (planOf b))) ≡ map arcOf (leaving (planOf b) (suc u))
+      → take (length (leaving (planOf b) (suc u))) (drop (length (inOrder (planOf b) u)) (arcsIn n (planOf b))) ≡ map wordOf (leaving (planOf b) (suc u))
   unfolding arcsIn
   arcs-of n u l =
       let p = planOf b in
@@ -145,30 +145,30 @@ module _ {b : List ℕ} (ok : Accepted b) where
       let here = leaving p (suc u) in
       let (es, q) = order-rest p (suc u) (p .junctions) l in
       let fresh = replicate {A = ℕ} (n - length (inOrder p (p .junctions))) 0 in
-      let rest = map arcOf es ++ fresh in
-      let split : map arcOf (before ++ here ++ es) ++ fresh ≡ map arcOf before ++ (map arcOf here ++ rest) = simp (map-append, append-assoc) in
-      ap (λ (o : List Belt). take (length here) (drop (length before) (map arcOf o ++ fresh))) q
+      let rest = map wordOf es ++ fresh in
+      let split : map wordOf (before ++ here ++ es) ++ fresh ≡ map wordOf before ++ (map wordOf here ++ rest) = simp (map-append, append-assoc) in
+      ap (λ (o : List Belt). take (length here) (drop (length before) (map wordOf o ++ fresh))) q
       ∙ ap (λ (o : List ℕ). take (length here) (drop (length before) o)) split
-      ∙ ap (take (length here)) (drop-at (map arcOf before) (map arcOf here ++ rest) (length before) (length-map before arcOf))
-      ∙ take-at (map arcOf here) rest (length here) (length-map here arcOf)
+      ∙ ap (take (length here)) (drop-at (map wordOf before) (map wordOf here ++ rest) (length before) (length-map before wordOf))
+      ∙ take-at (map wordOf here) rest (length here) (length-map here wordOf)
 
 -- ---- the arrays, filled for the junctions up to u
 
 abbrev pub arcsTo : ℕ → Plan → ℕ → List ℕ
-arcsTo n p u = map arcOf (inOrder p u) ++ replicate (n - length (inOrder p u)) 0
+arcsTo n p u = map wordOf (inOrder p u) ++ replicate (n - length (inOrder p u)) 0
 
 abbrev pub endsTo : Plan → ℕ → List ℕ
-endsTo p u = map (λ (v : ℕ). length (inOrder p v)) (run 0 (suc u)) ++ replicate (maxJunctions - u) 0
+endsTo p u = map (λ (v : ℕ). length (inOrder p v)) (iota 0 (suc u)) ++ replicate (maxJunctions - u) 0
 
 -- the last of a run
-map-last : (f : ℕ → ℕ) (n : ℕ) → map f (run 0 (suc n)) ≡ map f (run 0 n) ++ (f n ∷ [])
+map-last : (f : ℕ → ℕ) (n : ℕ) → map f (iota 0 (suc n)) ≡ map f (iota 0 n) ++ (f n ∷ [])
 map-last f n =
     let one : suc n ≡ n + 1 = omega arith in
     let at : 0 + n ≡ n = omega arith in
-    ap (λ (m : ℕ). map f (run 0 m)) one
-    ∙ ap (map f) (run-split 0 n 1)
-    ∙ map-append f (run 0 n) (run (0 + n) 1)
-    ∙ ap (λ (m : ℕ). map f (run 0 n) ++ (f m ∷ [])) at
+    ap (λ (m : ℕ). map f (iota 0 m)) one
+    ∙ ap (map f) (iota-split 0 n 1)
+    ∙ map-append f (iota 0 n) (iota (0 + n) 1)
+    ∙ ap (λ (m : ℕ). map f (iota 0 n) ++ (f m ∷ [])) at
 
 module _ (n : ℕ) (p : Plan) where
   pub arcs-none : replicate n 0 ≡ arcsTo n p 0
@@ -177,7 +177,7 @@ module _ (n : ℕ) (p : Plan) where
   pub length-arcs : (u : ℕ) → length (inOrder p u) ≤ n → length (arcsTo n p u) ≡ n
   length-arcs u h =
       let fresh = replicate {A = ℕ} (n - length (inOrder p u)) 0 in
-      omega (arith, length-append (map arcOf (inOrder p u)) fresh, length-map (inOrder p u) arcOf, length-replicate {A = ℕ} (n - length (inOrder p u)) 0)
+      omega (arith, length-append (map wordOf (inOrder p u)) fresh, length-map (inOrder p u) wordOf, length-replicate {A = ℕ} (n - length (inOrder p u)) 0)
 
   -- what stays fresh
   arcs-left : (u : ℕ)
@@ -187,19 +187,19 @@ module _ (n : ℕ) (p : Plan) where
       let here = leaving p (suc u) in
       let fresh = replicate {A = ℕ} (n - length before) 0 in
       let left : n - length before - length here ≡ n - length (before ++ here) = omega (arith, length-append before here) in
-      ap (λ (m : ℕ). drop (m + length here) (map arcOf before ++ fresh)) (sym (length-map before arcOf))
-      ∙ drop-append-add (map arcOf before) fresh (length here)
+      ap (λ (m : ℕ). drop (m + length here) (map wordOf before ++ fresh)) (sym (length-map before wordOf))
+      ∙ drop-append-add (map wordOf before) fresh (length here)
       ∙ drop-replicate (length here) (n - length before) 0
       ∙ ap (λ (m : ℕ). replicate m 0) left
 
   pub arcs-more : (u : ℕ)
-      → take (length (inOrder p u)) (arcsTo n p u) ++ map arcOf (leaving p (suc u)) ++ drop (length (inOrder p u) + length (leaving p (suc u))) (arcsTo n p u) ≡ arcsTo n p (suc u)
+      → take (length (inOrder p u)) (arcsTo n p u) ++ map wordOf (leaving p (suc u)) ++ drop (length (inOrder p u) + length (leaving p (suc u))) (arcsTo n p u) ≡ arcsTo n p (suc u)
   arcs-more u =
       let before = inOrder p u in
       let here = leaving p (suc u) in
       let fresh = replicate {A = ℕ} (n - length before) 0 in
-      (λ i. take-at (map arcOf before) fresh (length before) (length-map before arcOf) i ++ map arcOf here ++ arcs-left u i)
-      ∙ ap (λ (l : List ℕ). l ++ replicate (n - length (before ++ here)) 0) (sym (map-append arcOf before here))
+      (λ i. take-at (map wordOf before) fresh (length before) (length-map before wordOf) i ++ map wordOf here ++ arcs-left u i)
+      ∙ ap (λ (l : List ℕ). l ++ replicate (n - length (before ++ here)) 0) (sym (map-append wordOf before here))
 
   pub arcs-all : arcsTo n p (p .junctions) ≡ arcsIn n p
   unfolding arcsIn
@@ -209,22 +209,22 @@ module _ (p : Plan) where
   pub ends-none : replicate (suc maxJunctions) 0 ≡ endsTo p 0
   ends-none = refl
 
-  pub ends-more : (u : ℕ) → u < maxJunctions → set (endsTo p u) (suc u) (length (inOrder p (suc u))) ≡ endsTo p (suc u)
-  ends-more u h =
-      let ends : ℕ → ℕ = λ (v : ℕ). length (inOrder p v) in
-      let low = map ends (run 0 (suc u)) in
+  pub offsets-more : (u : ℕ) → u < maxJunctions → set (endsTo p u) (suc u) (length (inOrder p (suc u))) ≡ endsTo p (suc u)
+  offsets-more u h =
+      let offsets : ℕ → ℕ = λ (v : ℕ). length (inOrder p v) in
+      let low = map offsets (iota 0 (suc u)) in
       let rest = replicate {A = ℕ} (maxJunctions - suc u) 0 in
       let one : maxJunctions - u ≡ suc (maxJunctions - suc u) = omega arith in
-      ap (λ (n : ℕ). set (low ++ replicate n 0) (suc u) (ends (suc u))) one
-      ∙ set-at low 0 rest (ends (suc u)) (suc u) (length-map (run 0 (suc u)) ends ∙ length-run 0 (suc u))
-      ∙ sym (append-snoc low (ends (suc u)) rest)
-      ∙ ap (λ (l : List ℕ). l ++ rest) (sym (map-last ends (suc u)))
+      ap (λ (n : ℕ). set (low ++ replicate n 0) (suc u) (offsets (suc u))) one
+      ∙ set-at low 0 rest (offsets (suc u)) (suc u) (length-map (iota 0 (suc u)) offsets ∙ length-iota 0 (suc u))
+      ∙ sym (append-snoc low (offsets (suc u)) rest)
+      ∙ ap (λ (l : List ℕ). l ++ rest) (sym (map-last offsets (suc u)))
 
-  pub ends-all : endsTo p (p .junctions) ≡ endsOf p
-  unfolding endsOf
+  pub ends-all : endsTo p (p .junctions) ≡ offsetsOf p
+  unfolding offsetsOf
   ends-all =
       let e : suc (p .junctions) ≡ suc (p .junctions) - 0 = omega arith in
-      ap (λ (n : ℕ). map (λ (v : ℕ). length (inOrder p v)) (run 0 n) ++ replicate (maxJunctions - p .junctions) 0) e
+      ap (λ (n : ℕ). map (λ (v : ℕ). length (inOrder p v)) (iota 0 n) ++ replicate (maxJunctions - p .junctions) 0) e
 
 -- ---- how much room there has to be
 

@@ -142,7 +142,7 @@ header b h =
       few-junctions = f .0 .1;
       few-modes = f .1 .1;
       unused = f .4;
-      room = ltb-true (junctions b) (records b) (k .1);
+      junctions-fit = ltb-true (junctions b) (records b) (k .1);
     }
 
 pub header-fits : (b : List ℕ) → Header b → broken2 b ≡ false
@@ -152,7 +152,7 @@ header-fits b h =
     (and-is (eqb (kind b 0) 7 && fits b 0) (ltb (junctions b) (records b))
     (and-is (eqb (kind b 0) 7) (fits b 0) (eq-eqb (kind b 0) 7 (h .kind-7))
     (fields-fit b 0 7 (h .kind-7) ((h .some-junctions, h .few-junctions), (omega arith, h .few-modes), tt, tt, h .unused)))
-    (lt-ltb (junctions b) (records b) (h .room)))
+    (lt-ltb (junctions b) (records b) (h .junctions-fit)))
 
 -- ---- line 3, kinds
 

@@ -121,7 +121,7 @@ unbroken-kinds b h =
 
 sorted : (b : List ℕ) → Header b → Kinds b → Sorted b
 sorted b h k = record {
-  room = h .room;
+  room = h .junctions-fit;
   top = h .kind-7;
   low = λ r l u. k .low r l u .kind-1;
   high = λ r l u. item-kind b r (k .high r l u);
@@ -178,7 +178,7 @@ module _ (b : List ℕ) (h : Header b) (k : Kinds b) (g : Rising b) where
   -- ---- lines 1 to 4
 
   chains-unbroken : ((r : ℕ) → junctions b < r → r < records b → count (eqb r) (reached b) ≡ 1) → broken4 b ≡ false
-  chains-unbroken o = no-bad-link b (rising-well b (sorted b h k) g) (reached-once b (h .room) upward o)
+  chains-unbroken o = no-bad-link b (rising-well b (sorted b h k) g) (reached-once b (h .junctions-fit) upward o)
 
 sizes-passed : (b : List ℕ) → Sizes b → Header b → Passed2 b
 sizes-passed b s h = (size-fits b (record { least = omega arith; most = omega arith; whole = s .whole }), header-fits b h)

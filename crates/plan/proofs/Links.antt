@@ -18,7 +18,7 @@ use Prim.Native.Nat.{ℕ, zero, suc, _≤_, _<_}
 use mathlib.Core.List.{List, [], _∷_, _++_, List·Memᴰ, List·Memᴰ·head, List·Memᴰ·not-nil, List·Memᴰ·eq-of-singleton, append-nil, map}
 use native.Mathlib.Omega.{arith}
 use lib.Dec.{eqb, eqb·suc-zero}
-use Rattle.plan.specs.Lists.{kept, keep, mem, joined, upto}
+use Rattle.plan.specs.Lists.{keepBy, keep, mem, joined, upto}
 use Rattle.plan.specs.Records.{field, kind, junctions, records, Use, Any, Unused, Between, Chain, Row, rows, rowOf, rowAt, useAt, fields, Link, linkTo, linkBy, linksAt, links}
 use Rattle.plan.specs.Refusals.{pointers}
 use Rattle.plan.specs.Limits.{chainFields, held}
@@ -81,7 +81,7 @@ targets-held b r (t ∷ ts) = go (field b r (t .0)) (map (λ (s : ℕ × ℕ). f
   where
     go : (v : ℕ) (vs : List ℕ) (ls : List Link) → keep nonzero vs ≡ map target ls → keep nonzero (v ∷ vs) ≡ map target (linkTo r v (t .1) ++ ls)
     go zero vs ls e = e
-    go (suc v) vs ls e = ap (λ (x : Bool). kept (not x) (suc v) (keep nonzero vs)) (eqb·suc-zero v) ∙ ap (λ (l : List ℕ). suc v ∷ l) e
+    go (suc v) vs ls e = ap (λ (x : Bool). keepBy (not x) (suc v) (keep nonzero vs)) (eqb·suc-zero v) ∙ ap (λ (l : List ℕ). suc v ∷ l) e
 
 -- ---- the table `rows` and the limits' chain fields name the same fields
 

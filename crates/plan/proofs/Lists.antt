@@ -1,5 +1,5 @@
 -- Laws of the lists and tests of specs/Lists.antt, grouped by what they are about: Booleans, tests of numbers, elements, `any` and `all`,
--- `keep`, `map` and `joined`, `run` and `upto`, `mem`, `count`, loops that count up. Rising lists are in Rising.antt.
+-- `keep`, `map` and `joined`, `iota` and `upto`, `mem`, `count`, loops that count up. Rising lists are in Rising.antt.
 -- Assumes nothing.
 use mathlib.Core.Path.{_≡_, refl, sym, _∙_, ap, subst}
 use mathlib.Core.Logic.{_⊎_, inl, inr}
@@ -13,7 +13,7 @@ use lib.ListN.{length, getD, length-map}
 use lib.Seq.{ext-getD}
 use lib.Dec.{eqb, leb, ltb}
 use borrow.Author.Tests.{eqb-true, eq-eqb, ltb-true, ltb-false, leb-true, le-leb, lt-leb}
-use Rattle.plan.specs.Lists.{any, all, kept, keep, counted, count, mem, joined, run, upto, within}
+use Rattle.plan.specs.Lists.{any, all, keepBy, keep, countBy, count, mem, joined, iota, upto, within}
 
 -- ---- Booleans
 
@@ -154,14 +154,14 @@ any-cong f g (x ∷ xs) h = λ i. h x (List·Memᴰ·head refl) i || any-cong f 
 
 pub keep-cong : {A : Type 0} (f g : A → Bool) (xs : List A) → ((a : A) → List·Memᴰ a xs → f a ≡ g a) → keep f xs ≡ keep g xs
 keep-cong f g [] h = refl
-keep-cong f g (x ∷ xs) h = λ i. kept (h x (List·Memᴰ·head refl) i) x (keep-cong f g xs (λ a m. h a (List·Memᴰ·tail m)) i)
+keep-cong f g (x ∷ xs) h = λ i. keepBy (h x (List·Memᴰ·head refl) i) x (keep-cong f g xs (λ a m. h a (List·Memᴰ·tail m)) i)
 
 -- what is kept of a map is a map of what is kept
 pub keep-map : {A B : Type 0} (f : B → Bool) (g : A → B) (xs : List A) → keep f (map g xs) ≡ map g (keep (λ (a : A). f (g a)) xs)
 keep-map f g [] = refl
 keep-map {A} f g (x ∷ xs) = go (f (g x)) (keep-map f g xs)
   where
-    go : (t : Bool) → keep f (map g xs) ≡ map g (keep (λ (a : A). f (g a)) xs) → kept t (g x) (keep f (map g xs)) ≡ map g (kept t x (keep (λ (a : A). f (g a)) xs))
+    go : (t : Bool) → keep f (map g xs) ≡ map g (keep (λ (a : A). f (g a)) xs) → keepBy t (g x) (keep f (map g xs)) ≡ map g (keepBy t x (keep (λ (a : A). f (g a)) xs))
     go true e = λ i. g x ∷ e i
     go false e = e
 
@@ -175,7 +175,7 @@ pub in-keep : {A : Type 0} (f : A → Bool) {a : A} (xs : List A) → List·Mem�
 in-keep f [] m h = absurd (List·Memᴰ·not-nil m)
 in-keep f {a} (x ∷ xs) m h = go (f x) refl (List·Memᴰ·cases-cons m) (λ k. in-keep f xs k h)
   where
-    go : (t : Bool) → f x ≡ t → (a ≡ x) ⊎ List·Memᴰ a xs → (List·Memᴰ a xs → List·Memᴰ a (keep f xs)) → List·Memᴰ a (kept t x (keep f xs))
+    go : (t : Bool) → f x ≡ t → (a ≡ x) ⊎ List·Memᴰ a xs → (List·Memᴰ a xs → List·Memᴰ a (keep f xs)) → List·Memᴰ a (keepBy t x (keep f xs))
     go true e (inl q) below = List·Memᴰ·head q
     go true e (inr k) below = List·Memᴰ·tail (below k)
     go false e (inl q) below = absurd (never (ap f (sym q) ∙ h) e)
@@ -192,14 +192,14 @@ keep-in f {a} (x ∷ xs) m = go (f x) refl m (keep-in f xs)
     first e (inl q) below = (List·Memᴰ·head q, ap f q ∙ e)
     first e (inr k) below = later (below k)
 
-    go : (t : Bool) → f x ≡ t → List·Memᴰ a (kept t x (keep f xs)) → (List·Memᴰ a (keep f xs) → List·Memᴰ a xs × (f a ≡ true)) → List·Memᴰ a (x ∷ xs) × (f a ≡ true)
+    go : (t : Bool) → f x ≡ t → List·Memᴰ a (keepBy t x (keep f xs)) → (List·Memᴰ a (keep f xs) → List·Memᴰ a xs × (f a ≡ true)) → List·Memᴰ a (x ∷ xs) × (f a ≡ true)
     go true e k below = first e (List·Memᴰ·cases-cons k) below
     go false e k below = later (below k)
 
 -- nothing is kept of a list of which nothing passes
 pub keep-none : {A : Type 0} (f : A → Bool) (xs : List A) → ((a : A) → List·Memᴰ a xs → f a ≡ false) → keep f xs ≡ []
 keep-none f [] h = refl
-keep-none f (x ∷ xs) h = ap (λ (t : Bool). kept t x (keep f xs)) (h x (List·Memᴰ·head refl)) ∙ keep-none f xs (λ a m. h a (List·Memᴰ·tail m))
+keep-none f (x ∷ xs) h = ap (λ (t : Bool). keepBy t x (keep f xs)) (h x (List·Memᴰ·head refl)) ∙ keep-none f xs (λ a m. h a (List·Memᴰ·tail m))
 
 -- ---- map and joined
 
@@ -233,70 +233,70 @@ joined-in {A} f {b} (x ∷ xs) m = go (List·Memᴰ·append-cases (f x) m) (join
 
 -- ---- run and upto
 
-pub length-run : (lo n : ℕ) → length (run lo n) ≡ n
-length-run lo zero = refl
-length-run lo (suc n) = ap suc (length-run (suc lo) n)
+pub length-iota : (lo n : ℕ) → length (iota lo n) ≡ n
+length-iota lo zero = refl
+length-iota lo (suc n) = ap suc (length-iota (suc lo) n)
 
 -- a run is cut into two runs
-pub run-split : (i m n : ℕ) → run i (m + n) ≡ run i m ++ run (i + m) n
-run-split i zero n =
+pub iota-split : (i m n : ℕ) → iota i (m + n) ≡ iota i m ++ iota (i + m) n
+iota-split i zero n =
     let e : 0 + n ≡ n = omega arith in
     let k : i ≡ i + 0 = omega arith in
-    λ j. run (k j) (e j)
-run-split i (suc m) n =
+    λ j. iota (k j) (e j)
+iota-split i (suc m) n =
     let e : suc m + n ≡ suc (m + n) = omega arith in
     let k : suc i + m ≡ i + suc m = omega arith in
-    ap (run i) e ∙ ap (λ (l : List ℕ). i ∷ l) (run-split (suc i) m n) ∙ ap (λ (j : ℕ). run i (suc m) ++ run j n) k
+    ap (iota i) e ∙ ap (λ (l : List ℕ). i ∷ l) (iota-split (suc i) m n) ∙ ap (λ (j : ℕ). iota i (suc m) ++ iota j n) k
 
 -- what a function makes of a run
 module _ {A : Type 0} (f : ℕ → A) where
-  pub getD-run : (lo n i : ℕ) (d : A) → i < n → getD (map f (run lo n)) i d ≡ f (lo + i)
-  getD-run lo zero i d h = absurd (omega arith)
-  getD-run lo (suc n) zero d h = let e : lo ≡ lo + 0 = omega arith in ap f e
-  getD-run lo (suc n) (suc i) d h = let e : suc lo + i ≡ lo + suc i = omega arith in getD-run (suc lo) n i d (omega arith) ∙ ap f e
+  pub getD-iota : (lo n i : ℕ) (d : A) → i < n → getD (map f (iota lo n)) i d ≡ f (lo + i)
+  getD-iota lo zero i d h = absurd (omega arith)
+  getD-iota lo (suc n) zero d h = let e : lo ≡ lo + 0 = omega arith in ap f e
+  getD-iota lo (suc n) (suc i) d h = let e : suc lo + i ≡ lo + suc i = omega arith in getD-iota (suc lo) n i d (omega arith) ∙ ap f e
 
   -- a list is made so where it has the function's values at its places
-  pub map-run : (lo n : ℕ) (d : A) (l : List A) → length l ≡ n → ((i : ℕ) → i < n → getD l i d ≡ f (lo + i)) → l ≡ map f (run lo n)
-  map-run lo n d l s h =
-      ext-getD d l (map f (run lo n)) (s ∙ sym (length-map (run lo n) f ∙ length-run lo n)) (λ i u.
-      let k : i < n = omega arith in h i k ∙ sym (getD-run lo n i d k))
+  pub map-iota : (lo n : ℕ) (d : A) (l : List A) → length l ≡ n → ((i : ℕ) → i < n → getD l i d ≡ f (lo + i)) → l ≡ map f (iota lo n)
+  map-iota lo n d l s h =
+      ext-getD d l (map f (iota lo n)) (s ∙ sym (length-map (iota lo n) f ∙ length-iota lo n)) (λ i u.
+      let k : i < n = omega arith in h i k ∙ sym (getD-iota lo n i d k))
 
   -- the same of a run from 0
-  pub getD-first : (n i : ℕ) (d : A) → i < n → getD (map f (run 0 n)) i d ≡ f i
-  getD-first n i d h = let e : 0 + i ≡ i = omega arith in getD-run 0 n i d h ∙ ap f e
+  pub getD-first : (n i : ℕ) (d : A) → i < n → getD (map f (iota 0 n)) i d ≡ f i
+  getD-first n i d h = let e : 0 + i ≡ i = omega arith in getD-iota 0 n i d h ∙ ap f e
 
-  pub map-first : (n : ℕ) (d : A) (l : List A) → length l ≡ n → ((i : ℕ) → i < n → getD l i d ≡ f i) → l ≡ map f (run 0 n)
-  map-first n d l s h = map-run 0 n d l s (λ i k. let e : i ≡ 0 + i = omega arith in h i k ∙ ap f e)
+  pub map-first : (n : ℕ) (d : A) (l : List A) → length l ≡ n → ((i : ℕ) → i < n → getD l i d ≡ f i) → l ≡ map f (iota 0 n)
+  map-first n d l s h = map-iota 0 n d l s (λ i k. let e : i ≡ 0 + i = omega arith in h i k ∙ ap f e)
 
 pub upto-step : (lo hi : ℕ) → lo < hi → upto lo hi ≡ lo ∷ upto (lo + 1) hi
 upto-step lo hi h =
     let e : hi - lo ≡ suc (hi - (lo + 1)) = omega arith in
-    ap (run lo) e ∙ ap (λ (k : ℕ). lo ∷ run k (hi - (lo + 1))) (sym (add-one lo))
+    ap (iota lo) e ∙ ap (λ (k : ℕ). lo ∷ iota k (hi - (lo + 1))) (sym (add-one lo))
 
 pub upto-end : (lo hi : ℕ) → hi ≤ lo → upto lo hi ≡ []
-upto-end lo hi h = let e : hi - lo ≡ 0 = omega arith in ap (run lo) e
+upto-end lo hi h = let e : hi - lo ≡ 0 = omega arith in ap (iota lo) e
 
-in-run : (i n r : ℕ) → i ≤ r → r < i + n → List·Memᴰ r (run i n)
-in-run i zero r l u = absurd (omega arith)
-in-run i (suc n) r l u = go (eq-or-lt-of-le l) (λ k. in-run (suc i) n r k (omega arith))
+in-iota : (i n r : ℕ) → i ≤ r → r < i + n → List·Memᴰ r (iota i n)
+in-iota i zero r l u = absurd (omega arith)
+in-iota i (suc n) r l u = go (eq-or-lt-of-le l) (λ k. in-iota (suc i) n r k (omega arith))
   where
-    go : (i ≡ r) ⊎ (i < r) → (i < r → List·Memᴰ r (run (suc i) n)) → List·Memᴰ r (run i (suc n))
+    go : (i ≡ r) ⊎ (i < r) → (i < r → List·Memᴰ r (iota (suc i) n)) → List·Memᴰ r (iota i (suc n))
     go (inl e) below = List·Memᴰ·head (sym e)
     go (inr k) below = List·Memᴰ·tail (below k)
 
-run-in : (i n r : ℕ) → List·Memᴰ r (run i n) → (i ≤ r) × (r < i + n)
-run-in i zero r m = absurd (List·Memᴰ·not-nil m)
-run-in i (suc n) r m = go (List·Memᴰ·cases-cons m) (run-in (suc i) n r)
+iota-in : (i n r : ℕ) → List·Memᴰ r (iota i n) → (i ≤ r) × (r < i + n)
+iota-in i zero r m = absurd (List·Memᴰ·not-nil m)
+iota-in i (suc n) r m = go (List·Memᴰ·cases-cons m) (iota-in (suc i) n r)
   where
-    go : (r ≡ i) ⊎ List·Memᴰ r (run (suc i) n) → (List·Memᴰ r (run (suc i) n) → (suc i ≤ r) × (r < suc i + n)) → (i ≤ r) × (r < i + suc n)
+    go : (r ≡ i) ⊎ List·Memᴰ r (iota (suc i) n) → (List·Memᴰ r (iota (suc i) n) → (suc i ≤ r) × (r < suc i + n)) → (i ≤ r) × (r < i + suc n)
     go (inl e) below = (omega arith, omega arith)
     go (inr k) below = let h = below k in (omega (arith, h .0), omega (arith, h .1))
 
 pub in-upto : (lo hi r : ℕ) → lo ≤ r → r < hi → List·Memᴰ r (upto lo hi)
-in-upto lo hi r l u = in-run lo (hi - lo) r l (omega arith)
+in-upto lo hi r l u = in-iota lo (hi - lo) r l (omega arith)
 
 pub upto-in : (lo hi r : ℕ) → List·Memᴰ r (upto lo hi) → (lo ≤ r) × (r < hi)
-upto-in lo hi r m = let h = run-in lo (hi - lo) r m in (h .0, omega (arith, h .0, h .1))
+upto-in lo hi r m = let h = iota-in lo (hi - lo) r m in (h .0, omega (arith, h .0, h .1))
 
 -- ---- mem
 
@@ -313,7 +313,7 @@ module _ {A : Type 0} (f : A → Bool) where
   count-append [] ys = omega arith
   count-append (x ∷ xs) ys = go (f x) (count-append xs ys)
     where
-      go : (t : Bool) → count f (xs ++ ys) ≡ count f xs + count f ys → counted t (count f (xs ++ ys)) ≡ counted t (count f xs) + count f ys
+      go : (t : Bool) → count f (xs ++ ys) ≡ count f xs + count f ys → countBy t (count f (xs ++ ys)) ≡ countBy t (count f xs) + count f ys
       go true e = omega arith
       go false e = e
 
@@ -321,7 +321,7 @@ module _ {A : Type 0} (f : A → Bool) where
   count-pos [] m h = absurd (List·Memᴰ·not-nil m)
   count-pos {a} (x ∷ xs) m h = go (f x) refl (List·Memᴰ·cases-cons m) (λ k. count-pos xs k h)
     where
-      go : (t : Bool) → f x ≡ t → (a ≡ x) ⊎ List·Memᴰ a xs → (List·Memᴰ a xs → 1 ≤ count f xs) → 1 ≤ counted t (count f xs)
+      go : (t : Bool) → f x ≡ t → (a ≡ x) ⊎ List·Memᴰ a xs → (List·Memᴰ a xs → 1 ≤ count f xs) → 1 ≤ countBy t (count f xs)
       go true e k below = omega arith
       go false e (inl q) below = absurd (never (ap f (sym q) ∙ h) e)
       go false e (inr k) below = below k
@@ -333,7 +333,7 @@ module _ {A : Type 0} (f : A → Bool) where
       Out : List A → Type 0
       Out ys = (a : A) × List·Memᴰ a ys × (f a ≡ true)
 
-      go : (t : Bool) → f x ≡ t → 1 ≤ counted t (count f xs) → (1 ≤ count f xs → Out xs) → Out (x ∷ xs)
+      go : (t : Bool) → f x ≡ t → 1 ≤ countBy t (count f xs) → (1 ≤ count f xs → Out xs) → Out (x ∷ xs)
       go true e c below = (x, List·Memᴰ·head refl, e)
       go false e c below = let k = below c in (k .0, List·Memᴰ·tail (k .1), k .2)
 
@@ -345,7 +345,7 @@ module _ {A : Type 0} (f : A → Bool) where
       none-left : suc (count f xs) ≡ 1 → {y : A} → List·Memᴰ y xs → f y ≡ true → ⊥
       none-left e l g = omega (arith, count-pos xs l g)
 
-      go : (t : Bool) → f x ≡ t → counted t (count f xs) ≡ 1 → (a ≡ x) ⊎ List·Memᴰ a xs → (b ≡ x) ⊎ List·Memᴰ b xs
+      go : (t : Bool) → f x ≡ t → countBy t (count f xs) ≡ 1 → (a ≡ x) ⊎ List·Memᴰ a xs → (b ≡ x) ⊎ List·Memᴰ b xs
           → (count f xs ≡ 1 → List·Memᴰ a xs → List·Memᴰ b xs → a ≡ b) → a ≡ b
       go t e c (inl y) (inl z) below = y ∙ sym z
       go true e c (inr y) z below = absurd (none-left c y h)

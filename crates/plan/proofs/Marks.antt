@@ -16,7 +16,7 @@ use lib.ListN.{length, getD, set, replicate, length-set, length-replicate, getD-
 use lib.Seq.{getD-set-same, getD-set-other}
 use lib.Dec.{eqb, ltb}
 use borrow.Author.Tests.{eqb-true, eqb-false, eq-eqb, ne-eqb, lt-ltb, le-ltb}
-use Rattle.plan.specs.Lists.{any, counted, joined, upto}
+use Rattle.plan.specs.Lists.{any, countBy, joined, upto}
 use Rattle.plan.specs.Records.{kind, records, Link, linkTo, linksAt}
 use Rattle.plan.specs.Refusals.{badLink, pointers}
 use Rattle.plan.specs.Inner.{linksBy, bump, mark, marked, markedOnce, Followed}
@@ -117,7 +117,7 @@ once-bumped zero = refl
 once-bumped (suc zero) = refl
 once-bumped (suc (suc n)) = ap (λ (m : ℕ). eqb m 1) (bumps-two n) ∙ sym (ne-eqb (suc (suc n)) 1 (λ e. omega arith))
 
-mark-at : (seen : List ℕ) (i r : ℕ) → r < length seen → (t : Bool) → eqb i r ≡ t → getD (mark seen i) r 0 ≡ bumps (counted t 0) (getD seen r 0)
+mark-at : (seen : List ℕ) (i r : ℕ) → r < length seen → (t : Bool) → eqb i r ≡ t → getD (mark seen i) r 0 ≡ bumps (countBy t 0) (getD seen r 0)
 unfolding bumps
 mark-at seen i r h true e =
     let q = eqb-true i r e in
@@ -132,7 +132,7 @@ marks-count (l ∷ ls) seen r h =
     ∙ ap (bumps (pointers ls r)) (mark-at seen (l .index) r h (eqb (l .index) r) refl)
     ∙ later (eqb (l .index) r) (pointers ls r) (getD seen r 0)
   where
-    later : (t : Bool) (n m : ℕ) → bumps n (bumps (counted t 0) m) ≡ bumps (counted t n) m
+    later : (t : Bool) (n m : ℕ) → bumps n (bumps (countBy t 0) m) ≡ bumps (countBy t n) m
     later true n m = refl
     later false n m = refl
 

@@ -7,7 +7,7 @@
 --   few-named        line 7 as a number
 --   in-named, named-of
 --                    what is in `named p`, for any plan p
---   names-back       the names of the belts at records are the records
+--   indices-back     the indices of the belts at records are the records
 --   named-in, named-rises
 --                    the named belts are belt records, and rise
 --   named-marks, named-count, kept-named
@@ -25,7 +25,7 @@ use lib.Seq.{getD-set-same, getD-set-other}
 use lib.Dec.{eqb}
 use borrow.Author.Tests.{eqb-true, eqb-false, eq-eqb, ltb-false}
 use Rattle.plan.specs.Bounds.{maxNamed, maxRecords}
-use Rattle.plan.specs.Lists.{any, keep, counted, count, upto}
+use Rattle.plan.specs.Lists.{any, keep, countBy, count, upto}
 use Rattle.plan.specs.Records.{IsKind, field, kind, junctions, records, chain}
 use Rattle.plan.specs.Plan.{Belt, Plan, beltAt, beltRecords, literalBy, literalAt, ruleAt, planOf, names, inRule, named}
 use Rattle.plan.specs.Refusals.{broken6, broken7}
@@ -102,21 +102,21 @@ marks-at b marks e (l ∷ ls) h =
 abbrev pub someNames : List ℕ → ℕ → Bool
 someNames b e = any (namesAt b e) (upto (suc (junctions b)) (records b))
 
-noted-at : (b : List ℕ) (e : ℕ) → e < maxRecords → getD (notes b) e 0 ≡ counted (someNames b e) 0
+noted-at : (b : List ℕ) (e : ℕ) → e < maxRecords → getD (notes b) e 0 ≡ countBy (someNames b e) 0
 unfolding notes
 noted-at b e h =
     marks-at b (replicate maxRecords 0) e (upto (suc (junctions b)) (records b)) (omega (arith, length-replicate {A = ℕ} maxRecords 0))
     ∙ ap (setBy (someNames b e)) (getD-replicate {A = ℕ} maxRecords e 0 0 h)
     ∙ same (someNames b e)
   where
-    same : (t : Bool) → setBy t 0 ≡ counted t 0
+    same : (t : Bool) → setBy t 0 ≡ countBy t 0
     same true = refl
     same false = refl
 
 once-at : (b : List ℕ) (e : ℕ) → e < maxRecords → markedOnce (notes b) e ≡ someNames b e
 once-at b e h = ap (λ (m : ℕ). eqb m 1) (noted-at b e h) ∙ same (someNames b e)
   where
-    same : (t : Bool) → eqb (counted t 0) 1 ≡ t
+    same : (t : Bool) → eqb (countBy t 0) 1 ≡ t
     same true = refl
     same false = refl
 
@@ -132,16 +132,16 @@ few-named b h = ltb-false maxNamed (length (named (planOf b))) h
 abbrev inSome : Plan → ℕ → Bool
 inSome p e = any (inRule e) (p .rules)
 
-abbrev beltNames : Plan → List ℕ
-beltNames p = map (λ (x : Belt). x .name) (p .belts)
+abbrev beltIndices : Plan → List ℕ
+beltIndices p = map (λ (x : Belt). x .index) (p .belts)
 
-pub in-named : (p : Plan) (x : Belt) → List·Memᴰ x (p .belts) → any (inRule (x .name)) (p .rules) ≡ true → List·Memᴰ (x .name) (named p)
+pub in-named : (p : Plan) (x : Belt) → List·Memᴰ x (p .belts) → any (inRule (x .index)) (p .rules) ≡ true → List·Memᴰ (x .index) (named p)
 unfolding named
-in-named p x m t = in-keep (inSome p) (beltNames p) (in-map (λ (x : Belt). x .name) m) t
+in-named p x m t = in-keep (inSome p) (beltIndices p) (in-map (λ (x : Belt). x .index) m) t
 
-pub named-of : (p : Plan) (e : ℕ) → List·Memᴰ e (named p) → ((x : Belt) × List·Memᴰ x (p .belts) × (e ≡ x .name)) × (any (inRule e) (p .rules) ≡ true)
+pub named-of : (p : Plan) (e : ℕ) → List·Memᴰ e (named p) → ((x : Belt) × List·Memᴰ x (p .belts) × (e ≡ x .index)) × (any (inRule e) (p .rules) ≡ true)
 unfolding named
-named-of p e m = let k = keep-in (inSome p) (beltNames p) m in (map-in (λ (x : Belt). x .name) (p .belts) (k .0), k .1)
+named-of p e m = let k = keep-in (inSome p) (beltIndices p) m in (map-in (λ (x : Belt). x .index) (p .belts) (k .0), k .1)
 
 -- ---- those of the plan that bytes describe
 
@@ -152,14 +152,14 @@ names-at b e l = go (eqb (field b l 3) 0)
     go true = refl
     go false = refl
 
-pub names-back : (b : List ℕ) (xs : List ℕ) → map (λ (x : Belt). x .name) (map (beltAt b) xs) ≡ xs
-names-back b [] = refl
-names-back b (x ∷ xs) = ap (λ (l : List ℕ). x ∷ l) (names-back b xs)
+pub indices-back : (b : List ℕ) (xs : List ℕ) → map (λ (x : Belt). x .index) (map (beltAt b) xs) ≡ xs
+indices-back b [] = refl
+indices-back b (x ∷ xs) = ap (λ (l : List ℕ). x ∷ l) (indices-back b xs)
 
 -- the belt records that are in some rule
 named-records : (b : List ℕ) → named (planOf b) ≡ keep (inSome (planOf b)) (beltRecords b)
 unfolding named planOf
-named-records b = ap (keep (inSome (planOf b))) (names-back b (beltRecords b))
+named-records b = ap (keep (inSome (planOf b))) (indices-back b (beltRecords b))
 
 pub named-rises : (b : List ℕ) → Rises (named (planOf b))
 named-rises b =

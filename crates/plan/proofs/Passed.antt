@@ -85,9 +85,9 @@ linked b h =
     let top = header b (h .0 .1) in
     record {
       sorted = record {
-        room = top .room;
+        room = top .junctions-fit;
         top = top .kind-7;
-        low = λ r l u. low b r u (right b (h .1) r l (omega (arith, top .room)) .0);
+        low = λ r l u. low b r u (right b (h .1) r l (omega (arith, top .junctions-fit)) .0);
         high = λ r l u. high b r l (right b (h .1) r (omega arith) u .0);
       };
       well = well b (h .2);

@@ -25,9 +25,9 @@ use borrow.Author.Tests.{eqb-true, eqb-false, ne-eqb, lt-ltb, le-ltb}
 use Rattle.plan.specs.Bounds.{maxNamed, maxRecords}
 use Rattle.plan.specs.declared.named.Place.{Place}
 use Rattle.plan.specs.declared.named.Place.the-variants.{At, Unnamed}
-use Rattle.plan.specs.Lists.{counted, count, mem, run}
+use Rattle.plan.specs.Lists.{countBy, count, mem, iota}
 use Rattle.plan.specs.Plan.{beltId, listed, placeBy, placeOf, placeCode, placesOf, codePlace, placeIn}
-use Rattle.plan.proofs.Lists.{test, none-any, getD-run, map-run, in-mem, mem-in}
+use Rattle.plan.proofs.Lists.{test, none-any, getD-iota, map-iota, in-mem, mem-in}
 use Rattle.plan.proofs.Counts.{count-none}
 use Rattle.plan.proofs.Rising.{Rises, none, more}
 
@@ -75,10 +75,10 @@ none-below e xs h = count-none (λ (n : ℕ). ltb n e) xs (λ n m. le-ltb n e (o
 pub at-place : (e : ℕ) {ns : List ℕ} → Rises ns → List·Memᴰ e ns → (getD ns (count (λ (n : ℕ). ltb n e) ns) 0 ≡ e) × (count (λ (n : ℕ). ltb n e) ns < length ns)
 at-place e (more {x} {xs} h r) (List·Memᴰ·head q) =
     let zero-lower = none-below e xs (λ n m. omega (arith, h n m)) in
-    let k : counted (ltb x e) (count (λ (n : ℕ). ltb n e) xs) ≡ 0 = ap (λ (t : Bool). counted t (count (λ (n : ℕ). ltb n e) xs)) (le-ltb x e (omega arith)) ∙ zero-lower in
+    let k : countBy (ltb x e) (count (λ (n : ℕ). ltb n e) xs) ≡ 0 = ap (λ (t : Bool). countBy t (count (λ (n : ℕ). ltb n e) xs)) (le-ltb x e (omega arith)) ∙ zero-lower in
     (ap (λ (i : ℕ). getD (x ∷ xs) i 0) k ∙ sym q, omega arith)
 at-place e (more {x} {xs} h r) (List·Memᴰ·tail m) =
-    let k : counted (ltb x e) (count (λ (n : ℕ). ltb n e) xs) ≡ suc (count (λ (n : ℕ). ltb n e) xs) = ap (λ (t : Bool). counted t (count (λ (n : ℕ). ltb n e) xs)) (lt-ltb x e (h e m)) in
+    let k : countBy (ltb x e) (count (λ (n : ℕ). ltb n e) xs) ≡ suc (count (λ (n : ℕ). ltb n e) xs) = ap (λ (t : Bool). countBy t (count (λ (n : ℕ). ltb n e) xs)) (lt-ltb x e (h e m)) in
     let below = at-place e r m in
     (ap (λ (i : ℕ). getD (x ∷ xs) i 0) k ∙ below .0, omega (arith, below .1))
 
@@ -86,10 +86,10 @@ at-place e (more {x} {xs} h r) (List·Memᴰ·tail m) =
 pub place-at : {ns : List ℕ} → Rises ns → (k : ℕ) → k < length ns → (e : ℕ) × List·Memᴰ e ns × (count (λ (n : ℕ). ltb n e) ns ≡ k)
 place-at none k l = absurd (omega arith)
 place-at (more {x} {xs} h r) zero l =
-    (x, List·Memᴰ·head refl, ap (λ (t : Bool). counted t (count (λ (n : ℕ). ltb n x) xs)) (le-ltb x x (omega arith)) ∙ none-below x xs h)
+    (x, List·Memᴰ·head refl, ap (λ (t : Bool). countBy t (count (λ (n : ℕ). ltb n x) xs)) (le-ltb x x (omega arith)) ∙ none-below x xs h)
 place-at (more {x} {xs} h r) (suc k) l =
     let (e, m, q) = place-at r k (omega arith) in
-    (e, List·Memᴰ·tail m, ap (λ (t : Bool). counted t (count (λ (n : ℕ). ltb n e) xs)) (lt-ltb x e (h e m)) ∙ ap suc q)
+    (e, List·Memᴰ·tail m, ap (λ (t : Bool). countBy t (count (λ (n : ℕ). ltb n e) xs)) (lt-ltb x e (h e m)) ∙ ap suc q)
 
 pub place-in : (e : ℕ) (ns : List ℕ) → List·Memᴰ e ns → placeOf ns e ≡ At (count (λ (n : ℕ). ltb n e) ns)
 place-in e ns m = ap (λ (t : Bool). placeBy t (count (λ (n : ℕ). ltb n e) ns)) (in-mem ns m)
@@ -121,30 +121,30 @@ numbered-at places k e (more {x} {xs} h r) l =
     lower = count (λ (n : ℕ). ltb n e) xs
 
     -- e is not the first
-    later : (t : Bool) → mem e xs ≡ t → codeBy t (suc k + lower) (getD places e 0) ≡ codeBy t (k + counted (ltb x e) lower) (getD places e 0)
+    later : (t : Bool) → mem e xs ≡ t → codeBy t (suc k + lower) (getD places e 0) ≡ codeBy t (k + countBy (ltb x e) lower) (getD places e 0)
     later true m =
-        let c : suc lower ≡ counted (ltb x e) lower = sym (ap (λ (s : Bool). counted s lower) (lt-ltb x e (h e (mem-in xs m)))) in
-        let s : suc k + lower ≡ k + counted (ltb x e) lower = omega arith in
+        let c : suc lower ≡ countBy (ltb x e) lower = sym (ap (λ (s : Bool). countBy s lower) (lt-ltb x e (h e (mem-in xs m)))) in
+        let s : suc k + lower ≡ k + countBy (ltb x e) lower = omega arith in
         ap suc s
     later false m = refl
 
     go : (eqb e x ≡ true) ⊎ (eqb e x ≡ false)
-        → codeBy (mem e xs) (suc k + lower) (getD (set places x (suc k)) e 0) ≡ codeBy (eqb e x || mem e xs) (k + counted (ltb x e) lower) (getD places e 0)
+        → codeBy (mem e xs) (suc k + lower) (getD (set places x (suc k)) e 0) ≡ codeBy (eqb e x || mem e xs) (k + countBy (ltb x e) lower) (getD places e 0)
     go (inl t) =
         let q = eqb-true e x t in
         let out : mem e xs ≡ false = none-any (eqb e) xs (λ n m. ne-eqb e n (λ s. omega (arith, h n m))) in
         let zero-lower : lower ≡ 0 = none-below e xs (λ n m. omega (arith, h n m)) in
-        let c : counted (ltb x e) lower ≡ lower = ap (λ (s : Bool). counted s lower) (le-ltb x e (omega arith)) in
-        let s : suc k ≡ suc (k + counted (ltb x e) lower) = omega arith in
+        let c : countBy (ltb x e) lower ≡ lower = ap (λ (s : Bool). countBy s lower) (le-ltb x e (omega arith)) in
+        let s : suc k ≡ suc (k + countBy (ltb x e) lower) = omega arith in
         ap (λ (s : Bool). codeBy s (suc k + lower) (getD (set places x (suc k)) e 0)) out
         ∙ ap (λ (i : ℕ). getD (set places i (suc k)) e 0) (sym q)
         ∙ getD-set-same places e (suc k) 0 l
         ∙ s
-        ∙ sym (ap (λ (s : Bool). codeBy (s || mem e xs) (k + counted (ltb x e) lower) (getD places e 0)) t)
+        ∙ sym (ap (λ (s : Bool). codeBy (s || mem e xs) (k + countBy (ltb x e) lower) (getD places e 0)) t)
     go (inr t) =
         ap (codeBy (mem e xs) (suc k + lower)) (getD-set-other places x e (suc k) 0 (eqb-false e x t))
         ∙ later (mem e xs) refl
-        ∙ sym (ap (λ (s : Bool). codeBy (s || mem e xs) (k + counted (ltb x e) lower) (getD places e 0)) t)
+        ∙ sym (ap (λ (s : Bool). codeBy (s || mem e xs) (k + countBy (ltb x e) lower) (getD places e 0)) t)
 
 abbrev codeOf : List ℕ → ℕ → ℕ
 codeOf ns e = placeCode (placeOf ns e)
@@ -154,10 +154,10 @@ code-by true k = refl
 code-by false k = refl
 
 -- for an array of any length
-numbered-codes : (size : ℕ) (ns : List ℕ) → Rises ns → numbered (replicate size 0) 0 ns ≡ map (codeOf ns) (run 0 size)
+numbered-codes : (size : ℕ) (ns : List ℕ) → Rises ns → numbered (replicate size 0) 0 ns ≡ map (codeOf ns) (iota 0 size)
 numbered-codes size ns r =
     let full = length-replicate {A = ℕ} size 0 in
-    map-run (codeOf ns) 0 size 0 (numbered (replicate size 0) 0 ns) (length-numbered (replicate size 0) 0 ns ∙ full) (λ e fits.
+    map-iota (codeOf ns) 0 size 0 (numbered (replicate size 0) 0 ns) (length-numbered (replicate size 0) 0 ns ∙ full) (λ e fits.
     let lower = count (λ (n : ℕ). ltb n e) ns in
     let z : 0 + lower ≡ lower = omega arith in
     let same : e ≡ 0 + e = omega arith in
@@ -180,4 +180,4 @@ pub place-is : (ns : List ℕ) (e : ℕ) → e < maxRecords → placeIn (placesO
 unfolding placesOf
 place-is ns e h =
     let same : 0 + e ≡ e = omega arith in
-    ap codePlace (getD-run (codeOf ns) 0 maxRecords e 0 h ∙ ap (codeOf ns) same) ∙ code-back (placeOf ns e)
+    ap codePlace (getD-iota (codeOf ns) 0 maxRecords e 0 h ∙ ap (codeOf ns) same) ∙ code-back (placeOf ns e)

@@ -21,11 +21,11 @@ use native.Mathlib.Omega.{arith}
 use native.Mathlib.Nat.{mul-zero, zero-mul, suc-mul, eq-zero-or-pos}
 use lib.Dec.{eqb, ltb}
 use borrow.Author.Tests.{eqb-true, eq-eqb, ne-eqb, ltb-true, ltb-false}
-use Rattle.plan.specs.Lists.{counted, count, joined, run, upto}
+use Rattle.plan.specs.Lists.{countBy, count, joined, iota, upto}
 use Rattle.plan.specs.Records.{field, junctions, records, Use, Any, Unused, Between, Chain, rowAt, useAt, fields, Link, linkBy, linksAt, links}
 use Rattle.plan.specs.Refusals.{pointers}
 use Rattle.plan.specs.Limits.{walk, reached}
-use Rattle.plan.proofs.Lists.{test, eqb-sym, joined-in, run-split, upto-step, upto-in, count-append, count-some}
+use Rattle.plan.proofs.Lists.{test, eqb-sym, joined-in, iota-split, upto-step, upto-in, count-append, count-some}
 use Rattle.plan.proofs.Links.{target, held-links, Upward, linkTo-in, in-links}
 
 -- ---- sums over lists
@@ -73,19 +73,19 @@ upto-split : (lo mid hi : ℕ) → lo ≤ mid → mid ≤ hi → upto lo hi ≡ 
 upto-split lo mid hi a z =
     let e : hi - lo ≡ (mid - lo) + (hi - mid) = omega arith in
     let k : lo + (mid - lo) ≡ mid = omega arith in
-    ap (run lo) e ∙ run-split lo (mid - lo) (hi - mid) ∙ ap (λ (j : ℕ). upto lo mid ++ run j (hi - mid)) k
+    ap (iota lo) e ∙ iota-split lo (mid - lo) (hi - mid) ∙ ap (λ (j : ℕ). upto lo mid ++ iota j (hi - mid)) k
 
 -- f x where x is the number y, and zero elsewhere
 abbrev only : (ℕ → ℕ) → ℕ → ℕ → ℕ
-only f y x = counted (eqb x y) 0 * f x
+only f y x = countBy (eqb x y) 0 * f x
 
 -- at y
 only-same : (f : ℕ → ℕ) (y x : ℕ) → x ≡ y → only f y x ≡ f y
-only-same f y x e = ap (λ (t : Bool). counted t 0 * f x) (eq-eqb x y e) ∙ omega (arith, ap f e)
+only-same f y x e = ap (λ (t : Bool). countBy t 0 * f x) (eq-eqb x y e) ∙ omega (arith, ap f e)
 
 -- elsewhere
 only-other : (f : ℕ → ℕ) (y x : ℕ) → (x ≡ y → ⊥) → only f y x ≡ 0
-only-other f y x d = ap (λ (t : Bool). counted t 0 * f x) (ne-eqb x y d) ∙ zero-mul (f x)
+only-other f y x d = ap (λ (t : Bool). countBy t 0 * f x) (ne-eqb x y d) ∙ zero-mul (f x)
 
 -- of a range that has y, only f y is left
 sum-only : (f : ℕ → ℕ) (y lo hi : ℕ) → lo ≤ y → y < hi → sum (only f y) (upto lo hi) ≡ f y
@@ -101,7 +101,7 @@ sum-only f y lo hi a z =
     above = sum-none (only f y) (upto (y + 1) hi) (λ x m. only-other f y x (λ e. omega (arith, upto-in (y + 1) hi x m .0)))
 
 -- one more occurrence counts v once more
-counted-times : (t : Bool) (n v : ℕ) → counted t n * v ≡ counted t 0 * v + n * v
+counted-times : (t : Bool) (n v : ℕ) → countBy t n * v ≡ countBy t 0 * v + n * v
 counted-times true n v = omega (arith, suc-mul n v)
 counted-times false n v = omega arith
 
@@ -143,7 +143,7 @@ flow-along : (r : ℕ) (to : ℕ → ℕ) (walk : ℕ → List ℕ) (ls : List L
     → count (eqb r) (joined (λ (l : Link). l .index ∷ walk (l .index)) ls) ≡ pointers ls r + sum to (joined (λ (l : Link). l .index ∷ walk (l .index)) ls)
 flow-along r to walk [] h = refl
 flow-along r to walk (l ∷ ls) h =
-    ap (λ (t : Bool). counted t (count (eqb r) (from ++ rest))) (eqb-sym r (l .index))
+    ap (λ (t : Bool). countBy t (count (eqb r) (from ++ rest))) (eqb-sym r (l .index))
     ∙ go (eqb (l .index) r) (h l (List·Memᴰ·head refl)) (flow-along r to walk ls (λ k m. h k (List·Memᴰ·tail m)))
   where
     from : List ℕ
@@ -153,7 +153,7 @@ flow-along r to walk (l ∷ ls) h =
     rest = joined (λ (k : Link). k .index ∷ walk (k .index)) ls
 
     go : (t : Bool) → count (eqb r) from ≡ to (l .index) + sum to from → count (eqb r) rest ≡ pointers ls r + sum to rest
-        → counted t (count (eqb r) (from ++ rest)) ≡ counted t (pointers ls r) + (to (l .index) + sum to (from ++ rest))
+        → countBy t (count (eqb r) (from ++ rest)) ≡ countBy t (pointers ls r) + (to (l .index) + sum to (from ++ rest))
     go true p q = omega (arith, count-append (eqb r) from rest, sum-append to from rest)
     go false p q = omega (arith, count-append (eqb r) from rest, sum-append to from rest)
 

@@ -17,15 +17,15 @@
 --   rules-few               at most 2,048 rules
 -- Belts of the plan:
 --   belt-in, belt-of        the belts of the plan are the belt records
---   belts-rise              their names rise
---   belt-name               two belts of one name are equal
---   belt-named, name-belt, not-named, named-is
---                           a number is a belt's name exactly when it is the index of a belt record
+--   belts-rise              their indices rise
+--   belt-index              two belts of one index are equal
+--   belt-indexed, index-belt, not-indexed, indexed-is
+--                           a number is the index of a belt of the plan exactly when it is that of a belt record
 --   belt-ends               a belt leaves a junction and leads to a higher one
 --   belt-leaving            a belt is among those leaving one junction, and that is where it leaves
 --   on-chain, one-chain     its record stands on the chain of that junction and of no other
 --   leaves-on               a belt leaves a junction exactly when it stands on its chain
---   belt-low                its name is above J, below N and below 2,048
+--   belt-low                its index is above J, below N and below 2,048
 --   belt-cost, belts-cost   THE BOUND of a belt's cost, at a record and in the plan
 -- Rules and named belts:
 --   rule-low, literal-low   the index of a rule record is above J, below N and below 2,048, and so is that of a literal record
@@ -53,7 +53,7 @@ use Rattle.plan.specs.declared.read.Literal.{Literal}
 use Rattle.plan.specs.declared.read.Literal.the-variants.{OfBelt, OfMode}
 use Rattle.plan.specs.Lists.{mem}
 use Rattle.plan.specs.Records.{field, kind, junctions, modes, records, IsKind}
-use Rattle.plan.specs.Plan.{Belt, Plan, planOf, leaves, beltAt, beltRecords, literalBy, literalAt, ruleAt, namesOf, leaving, named}
+use Rattle.plan.specs.Plan.{Belt, Plan, planOf, leaves, beltAt, beltRecords, literalBy, literalAt, ruleAt, indicesOf, leaving, named}
 use Rattle.plan.specs.Limits.{Limits}
 use Rattle.plan.specs.Reading.{Accepted, Bytes, IsBelt, IsRule, IsLiteral, isRuleAt, isLiteralAt}
 use Rattle.plan.specs.Reading.{firstBelt, nextBelt, firstRule, nextRule, firstLiteral, nextLiteral, beltChain, ruleChain, literalChain, beltsFrom, rulesFrom, literalsFrom}
@@ -63,7 +63,7 @@ use Rattle.plan.proofs.Links.{Linked}
 use Rattle.plan.proofs.Rising.{Rises}
 use Rattle.plan.proofs.Passed.{linked}
 use Rattle.plan.proofs.Chains.{above, chain-end, chain-few, belt-step, rule-step, literal-step, first-belt, next-belt, first-rule, next-rule, first-literal, next-literal, rule-chain-in, literal-chain-in, belt-reached, rule-reached, literal-reached, leaves-is, records-rise, belt-in-plan, plan-belt, leaving-chain}
-use Rattle.plan.proofs.Naming.{names-back}
+use Rattle.plan.proofs.Naming.{indices-back}
 use Rattle.plan.proofs.Accepted.{accepted-passed, accepted-room}
 use Rattle.plan.proofs.Limits.{belt-among, literal-among, limits-accepted, accepted-limits}
 
@@ -204,34 +204,34 @@ module _ {b : List ℕ} (ok : Accepted b) where
   pub belt-in : (e : ℕ) → IsBelt b e → List·Memᴰ (beltAt b e) (planOf b .belts)
   belt-in = belt-in-plan links
 
-  pub belt-of : (x : Belt) → List·Memᴰ x (planOf b .belts) → IsBelt b (x .name) × (x ≡ beltAt b (x .name))
+  pub belt-of : (x : Belt) → List·Memᴰ x (planOf b .belts) → IsBelt b (x .index) × (x ≡ beltAt b (x .index))
   belt-of x m =
       let (e, o, q) = plan-belt b x m in
-      let n : x .name ≡ e = ap (λ (y : Belt). y .name) q in
+      let n : x .index ≡ e = ap (λ (y : Belt). y .index) q in
       (subst (IsBelt b) (sym n) o, q ∙ ap (beltAt b) (sym n))
 
-  pub belt-name : (x y : Belt) → List·Memᴰ x (planOf b .belts) → List·Memᴰ y (planOf b .belts) → x .name ≡ y .name → x ≡ y
-  belt-name x y m n e = belt-of x m .1 ∙ ap (beltAt b) e ∙ sym (belt-of y n .1)
+  pub belt-index : (x y : Belt) → List·Memᴰ x (planOf b .belts) → List·Memᴰ y (planOf b .belts) → x .index ≡ y .index → x ≡ y
+  belt-index x y m n e = belt-of x m .1 ∙ ap (beltAt b) e ∙ sym (belt-of y n .1)
 
-  pub belt-named : (e : ℕ) → IsBelt b e → mem e (namesOf (planOf b .belts)) ≡ true
-  belt-named e o = in-mem (namesOf (planOf b .belts)) (in-map (λ (x : Belt). x .name) (belt-in e o))
+  pub belt-indexed : (e : ℕ) → IsBelt b e → mem e (indicesOf (planOf b .belts)) ≡ true
+  belt-indexed e o = in-mem (indicesOf (planOf b .belts)) (in-map (λ (x : Belt). x .index) (belt-in e o))
 
-  pub name-belt : (e : ℕ) → mem e (namesOf (planOf b .belts)) ≡ true → IsBelt b e
-  name-belt e h =
-      let k = map-in (λ (x : Belt). x .name) (planOf b .belts) (mem-in (namesOf (planOf b .belts)) h) in
+  pub index-belt : (e : ℕ) → mem e (indicesOf (planOf b .belts)) ≡ true → IsBelt b e
+  index-belt e h =
+      let k = map-in (λ (x : Belt). x .index) (planOf b .belts) (mem-in (indicesOf (planOf b .belts)) h) in
       subst (IsBelt b) (sym (k .2)) (belt-of (k .0) (k .1) .0)
 
-  pub not-named : (e : ℕ) → (IsBelt b e → ⊥) → mem e (namesOf (planOf b .belts)) ≡ false
-  not-named e none = untrue (mem e (namesOf (planOf b .belts))) (λ t. none (name-belt e t))
+  pub not-indexed : (e : ℕ) → (IsBelt b e → ⊥) → mem e (indicesOf (planOf b .belts)) ≡ false
+  not-indexed e none = untrue (mem e (indicesOf (planOf b .belts))) (λ t. none (index-belt e t))
 
-  pub named-is : (e : ℕ) → e < records b → mem e (namesOf (planOf b .belts)) ≡ eqb (kind b e) 2
-  named-is e h =
-      alike (mem e (namesOf (planOf b .belts))) (eqb (kind b e) 2)
-      (λ t. eq-eqb (kind b e) 2 (name-belt e t .1)) (λ t. belt-named e (h, eqb-true (kind b e) 2 t))
+  pub indexed-is : (e : ℕ) → e < records b → mem e (indicesOf (planOf b .belts)) ≡ eqb (kind b e) 2
+  indexed-is e h =
+      alike (mem e (indicesOf (planOf b .belts))) (eqb (kind b e) 2)
+      (λ t. eq-eqb (kind b e) 2 (index-belt e t .1)) (λ t. belt-indexed e (h, eqb-true (kind b e) 2 t))
 
-  pub belts-rise : Rises (map (λ (x : Belt). x .name) (planOf b .belts))
+  pub belts-rise : Rises (map (λ (x : Belt). x .index) (planOf b .belts))
   unfolding planOf
-  belts-rise = subst Rises (sym (names-back b (beltRecords b))) (records-rise b)
+  belts-rise = subst Rises (sym (indices-back b (beltRecords b))) (records-rise b)
 
   pub on-chain : (e : ℕ) → IsBelt b e → (1 ≤ leaves b e) × (leaves b e ≤ planOf b .junctions) × List·Memᴰ e (beltChain b (firstBelt b (leaves b e)))
   unfolding planOf
@@ -255,8 +255,8 @@ module _ {b : List ℕ} (ok : Accepted b) where
   belt-ends x m =
       let all = limits in
       let (o, q) = belt-of x m in
-      let l : 1 ≤ x .leaves = subst (λ (y : Belt). 1 ≤ y .leaves) (sym q) (on-chain (x .name) o .0) in
-      let form = belt-among b (x .name) (o .1) (all .kinds .high (x .name) (above links belts (x .name) o) (o .0)) in
+      let l : 1 ≤ x .leaves = subst (λ (y : Belt). 1 ≤ y .leaves) (sym q) (on-chain (x .index) o .0) in
+      let form = belt-among b (x .index) (o .1) (all .kinds .high (x .index) (above links belts (x .index) o) (o .0)) in
       (l, all .higher x m, subst (λ (y : Belt). y .leads ≤ junctions b) (sym q) (form .leads-to))
 
   pub belt-leaving : (x : Belt) → List·Memᴰ x (planOf b .belts) → List·Memᴰ x (leaving (planOf b) (x .leaves))
@@ -269,7 +269,7 @@ module _ {b : List ℕ} (ok : Accepted b) where
   belt-cost bytes e = field-low b bytes e 3
 
   pub belts-cost : Bytes b → (x : Belt) → List·Memᴰ x (planOf b .belts) → x .cost < fieldLimit
-  belts-cost bytes x m = subst (λ (y : Belt). y .cost < fieldLimit) (sym (belt-of x m .1)) (belt-cost bytes (x .name))
+  belts-cost bytes x m = subst (λ (y : Belt). y .cost < fieldLimit) (sym (belt-of x m .1)) (belt-cost bytes (x .index))
 
   -- ---- rules
 

@@ -16,7 +16,7 @@ use mathlib.Core.Bool.{Bool, true, false}
 use Prim.Native.Nat.{ℕ, zero, suc, _+_, _-_, _≤_, _<_}
 use mathlib.Core.List.{List, [], _∷_, List·Memᴰ, List·Memᴰ·head, List·Memᴰ·tail, List·Memᴰ·not-nil}
 use native.Mathlib.Omega.{arith}
-use Rattle.plan.specs.Lists.{kept, keep, run, upto}
+use Rattle.plan.specs.Lists.{keepBy, keep, iota, upto}
 use Rattle.plan.specs.Records.{chainOf}
 use Rattle.plan.proofs.Lists.{keep-in, upto-in}
 
@@ -28,21 +28,21 @@ pub data Rises : List ℕ → Type 0 where
   more : {x : ℕ} {xs : List ℕ} → ((n : ℕ) → List·Memᴰ n xs → x < n) → Rises xs → Rises (x ∷ xs)
 
 -- numbers in a row rise
-run-rises : (i n : ℕ) → Rises (run i n)
-run-rises i zero = none
-run-rises i (suc n) =
+iota-rises : (i n : ℕ) → Rises (iota i n)
+iota-rises i zero = none
+iota-rises i (suc n) =
     let e : n ≡ (suc i + n) - suc i = omega arith in
-    more (λ r m. upto-in (suc i) (suc i + n) r (subst (λ (k : ℕ). List·Memᴰ r (run (suc i) k)) e m) .0) (run-rises (suc i) n)
+    more (λ r m. upto-in (suc i) (suc i + n) r (subst (λ (k : ℕ). List·Memᴰ r (iota (suc i) k)) e m) .0) (iota-rises (suc i) n)
 
 pub upto-rises : (lo hi : ℕ) → Rises (upto lo hi)
-upto-rises lo hi = run-rises lo (hi - lo)
+upto-rises lo hi = iota-rises lo (hi - lo)
 
 -- what is kept of a rising list rises
 pub keep-rises : (f : ℕ → Bool) {xs : List ℕ} → Rises xs → Rises (keep f xs)
 keep-rises f none = none
 keep-rises f (more {x} {xs} h r) = go (f x) (keep-rises f r)
   where
-    go : (t : Bool) → Rises (keep f xs) → Rises (kept t x (keep f xs))
+    go : (t : Bool) → Rises (keep f xs) → Rises (keepBy t x (keep f xs))
     go true k = more (λ n m. h n (keep-in f xs m .0)) k
     go false k = k
 

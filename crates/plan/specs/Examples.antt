@@ -29,7 +29,7 @@ unfolding planP refusal broken1 broken2 broken3 broken4 broken5 broken6 broken7 
 P-accepted = refl
 
 abbrev belt : ℕ → ℕ → ℕ → ℕ → Belt
-belt e s t c = record { name = e; leaves = s; leads = t; cost = c }
+belt e s t c = record { index = e; leaves = s; leads = t; cost = c }
 
 -- three belts, and the rule: not belt 4, or not belt 6
 P-means : planOf planP ≡ record {

@@ -38,7 +38,7 @@ pub record Header (b : List ℕ) : Type 0 where
   pub few-junctions : junctions b ≤ maxJunctions
   pub few-modes : modes b ≤ maxModes
   pub unused : field b 0 5 ≡ 0
-  pub room : junctions b < records b
+  pub junctions-fit : junctions b < records b
 
 pub record JunctionForm (b : List ℕ) (r : ℕ) : Type 0 where
   pub kind-1 : kind b r ≡ 1

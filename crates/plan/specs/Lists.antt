@@ -6,7 +6,7 @@
 --   count f xs    how many pass (kept and counted: one step of each, by the test's answer)
 --   mem n xs      the number n is among xs
 --   joined f xs   the lists f x, for x in xs, one after the other
---   upto lo hi    the numbers lo, lo + 1, .. below hi; run i n: n numbers from i on
+--   upto lo hi    the numbers lo, lo + 1, .. below hi; iota i n: n numbers from i on
 --   within a n z  a ≤ n ≤ z
 --
 -- Not here: laws about them (proofs/Lists.antt). Assumes nothing.
@@ -23,21 +23,21 @@ abbrev pub all : {A : Type 0} → (A → Bool) → List A → Bool
 all f [] = true
 all f (x ∷ xs) = f x && all f xs
 
-abbrev pub kept : {A : Type 0} → Bool → A → List A → List A
-kept true x xs = x ∷ xs
-kept false x xs = xs
+abbrev pub keepBy : {A : Type 0} → Bool → A → List A → List A
+keepBy true x xs = x ∷ xs
+keepBy false x xs = xs
 
 abbrev pub keep : {A : Type 0} → (A → Bool) → List A → List A
 keep f [] = []
-keep f (x ∷ xs) = kept (f x) x (keep f xs)
+keep f (x ∷ xs) = keepBy (f x) x (keep f xs)
 
-abbrev pub counted : Bool → ℕ → ℕ
-counted true n = suc n
-counted false n = n
+abbrev pub countBy : Bool → ℕ → ℕ
+countBy true n = suc n
+countBy false n = n
 
 abbrev pub count : {A : Type 0} → (A → Bool) → List A → ℕ
 count f [] = 0
-count f (x ∷ xs) = counted (f x) (count f xs)
+count f (x ∷ xs) = countBy (f x) (count f xs)
 
 abbrev pub mem : ℕ → List ℕ → Bool
 mem n xs = any (eqb n) xs
@@ -46,12 +46,12 @@ abbrev pub joined : {A B : Type 0} → (A → List B) → List A → List B
 joined f [] = []
 joined f (x ∷ xs) = f x ++ joined f xs
 
-abbrev pub run : ℕ → ℕ → List ℕ
-run i zero = []
-run i (suc n) = i ∷ run (suc i) n
+abbrev pub iota : ℕ → ℕ → List ℕ
+iota i zero = []
+iota i (suc n) = i ∷ iota (suc i) n
 
 abbrev pub upto : ℕ → ℕ → List ℕ
-upto lo hi = run lo (hi - lo)
+upto lo hi = iota lo (hi - lo)
 
 abbrev pub within : ℕ → ℕ → ℕ → Bool
 within a n z = leb a n && leb n z

@@ -1,13 +1,13 @@
 -- The abstract plan: what accepted bytes mean (paper 01, "Plan bytes"). Everything above the reader is said of it, never of bytes.
 --
---   Belt            a belt: its name (the index of its record), where it leaves, where it leads, its cost
+--   Belt            a belt: the index of its record, where it leaves, where it leads, its cost
 --   Literal         a belt or a mode, wanted (true) or unwanted (false); declared by the code (src/read.rt)
 --   Plan            counts of junctions and modes, the belts in rising index, the rules as lists of literals in chain order
 --   planOf b        the plan that the bytes b describe, put together from their records:
 --     leaves b e    the junction whose chain has belt e
 --     beltAt b e, literalAt b l, ruleAt b r
 --                   the belt, the literal and the rule of a record; beltRecords b: the records that are belts
---   namesOf es      the names of the belts es
+--   indicesOf es    the indices of the belts es
 --   leaving p j     the belts of p that leave junction j, in rising index
 --   names e l       literal l is about belt e; inRule e rule: some literal of the rule is
 --   named p         the belts in some rule (paper 01's "named belts"), in rising index, each once
@@ -33,7 +33,7 @@ use Rattle.plan.specs.Bounds.{maxRecords, maxNamed}
 use Rattle.plan.specs.Records.{field, kind, junctions, modes, records, chain}
 
 pub record Belt : Type 0 where
-  pub name : ℕ
+  pub index : ℕ
   pub leaves : ℕ
   pub leads : ℕ
   pub cost : ℕ
@@ -55,7 +55,7 @@ abbrev pub leaves : List ℕ → ℕ → ℕ
 leaves b e = firstIn (λ (j : ℕ). mem e (chain b (field b j 1))) (upto 1 (suc (junctions b)))
 
 abbrev pub beltAt : List ℕ → ℕ → Belt
-beltAt b e = record { name = e; leaves = leaves b e; leads = field b e 2; cost = field b e 3 }
+beltAt b e = record { index = e; leaves = leaves b e; leads = field b e 2; cost = field b e 3 }
 
 abbrev pub beltRecords : List ℕ → List ℕ
 beltRecords b = keep (λ (r : ℕ). eqb (kind b r) 2) (upto (suc (junctions b)) (records b))
@@ -81,8 +81,8 @@ planOf b = record {
 
 -- ---- parts of a plan
 
-abbrev pub namesOf : List Belt → List ℕ
-namesOf es = map (λ (e : Belt). e .name) es
+abbrev pub indicesOf : List Belt → List ℕ
+indicesOf es = map (λ (e : Belt). e .index) es
 
 abbrev pub leaving : Plan → ℕ → List Belt
 leaving p j = keep (λ (e : Belt). eqb (e .leaves) j) (p .belts)
@@ -95,7 +95,7 @@ abbrev pub inRule : ℕ → List Literal → Bool
 inRule e rule = any (names e) rule
 
 unfoldable pub named : Plan → List ℕ
-named p = keep (λ (e : ℕ). any (inRule e) (p .rules)) (namesOf (p .belts))
+named p = keep (λ (e : ℕ). any (inRule e) (p .rules)) (indicesOf (p .belts))
 
 abbrev pub beltId : ℕ → BeltId
 beltId e = record { 0 = e }

@@ -7,10 +7,10 @@ ghost use Rattle.plan.specs.Bounds.{fieldLimit};
 ghost use Rattle.plan.specs.Records.{field, records};
 ghost use lib.Dec.{eqb};
 ghost use Rattle.plan.specs.Lists.{mem};
-ghost use Rattle.plan.specs.Plan.{planOf, beltAt, literalAt, namesOf};
+ghost use Rattle.plan.specs.Plan.{planOf, beltAt, literalAt, indicesOf};
 ghost use Rattle.plan.specs.Reading.{Accepted, IsBelt, IsRule, IsLiteral, firstBelt, nextBelt, firstRule, nextRule, firstLiteral, nextLiteral};
 
-// A belt's name: the index of its record.
+// A belt's index: the index of its record.
 pub struct BeltId(pub u16);
 
 // A mode's number, from 1.
@@ -76,7 +76,7 @@ pub fn next_belt(p: &[u8], belt: BeltId) -> BeltId
 // Whether this is the number of a belt.
 pub fn is_belt(p: &[u8], belt: BeltId) -> bool
     requires { ⌜ Accepted (now p) ⌝ }
-    ensures { λ v. ⌜ v ≡ mem (belt .0) (namesOf (planOf (now (p .entry)) .belts)) ⌝ }
+    ensures { λ v. ⌜ v ≡ mem (belt .0) (indicesOf (planOf (now (p .entry)) .belts)) ⌝ }
 {
     let e = belt.0 as usize;
     if record::records(p) <= e {

@@ -57,7 +57,7 @@ pub extern "C" fn planner_search(p: &[u8], query: PlannerQuery, out: &mut [u8]) 
         order: query.order,
         budget: query.budget,
     };
-    let reply = entry::numbers(entry::search(p, asked, out));
+    let reply = entry::reply_of(entry::search(p, asked, out));
     PlannerReply {
         number: reply.number as u64,
         opened: reply.opened,

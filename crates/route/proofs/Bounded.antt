@@ -4,7 +4,7 @@
 --   at-most-some   else it is the way on
 --   at-most-found, at-most-lost
 --                  by the cost: where it is that of a way on, this is the route; where it is that of none, there is none
---   kept-size      storing its belts in an array leaves the array's length as it was
+--   walked-size    storing its belts in an array leaves the array's length as it was
 --
 -- Assumes nothing.
 use mathlib.Core.Path.{_≡_, refl, sym, _∙_, ap, subst}
@@ -18,10 +18,10 @@ use lib.ListN.{length}
 use lib.Seq.{length-sets}
 use lib.Dec.{leb}
 use borrow.Author.Tests.{leb-true, leb-false, le-leb, lt-leb}
-use Rattle.plan.specs.Plan.{Belt, namesOf}
+use Rattle.plan.specs.Plan.{Belt, indicesOf}
 use Rattle.plan.proofs.Lists.{test}
 use Rattle.route.specs.Routes.{cost, costLimit}
-use Rattle.route.specs.Values.{atMost, keptOf}
+use Rattle.route.specs.Values.{atMost, walkedOf}
 use Rattle.route.specs.Inner.{wayCost}
 
 -- by whether the cost is within the bound
@@ -58,6 +58,6 @@ at-most-lost k (some r) h c = go (test (leb (cost r) k))
         absurd (omega arith)
     go (inr l) = at-most-none k (some r) (leb-false (cost r) k l)
 
-pub kept-size : (o : Option (List Belt)) (room : List ℕ) → length (keptOf o room) ≡ length room
-kept-size none room = refl
-kept-size (some r) room = length-sets room 0 (namesOf r)
+pub walked-size : (o : Option (List Belt)) (room : List ℕ) → length (walkedOf o room) ≡ length room
+walked-size none room = refl
+walked-size (some r) room = length-sets room 0 (indicesOf r)

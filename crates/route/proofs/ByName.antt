@@ -1,15 +1,15 @@
--- Belts by their names, routes against what the code can test of them, and routes as the code holds them.
+-- Belts by their indices, routes against what the code can test of them, and routes as the code holds them.
 --
--- The names of a plan's belts rise, so exactly one belt has a given name:
---   named-map        the belts with the names es, all of them belts, are the belts at these records
---   names-belts      the belts with the names of a list of the plan's belts are that list
---   named-in         the belts with any names are belts of the plan
---   known-belts      numbers that all pass the test of being a belt's name are belt records
+-- The indices of a plan's belts rise, so exactly one belt has a given index:
+--   indexed-map      the belts with the indices es, all of them belts, are the belts at these records
+--   indices-belts    the belts with the indices of a list of the plan's belts are that list
+--   indexed-in       the belts with any indices are belts of the plan
+--   known-belts      numbers that all pass the test of being a belt's index are belt records
 -- Routes:
 --   connects-route   belts of the plan that connect s to t are a route from s to t
 --   route-connects   a route from s to t connects them
 --   route-belts      its belts are the plan's
---   passes-names     it passes the belts whose names it has
+--   passes-indices   it passes the belts whose indices it has
 --   route-length     it has at most t - s belts: each leads higher
 --   sum-cost         THE BOUND of a cost: 65,535 for each belt of the plan, whether they are a route or not
 --   route-few, route-cheap
@@ -19,7 +19,7 @@
 --   ids-packed       a packed route holds the belts that were packed
 --   packed-sets      belts stored from the front of an array of maxSteps are `packed`
 --   known-route      the belts that a known Route holds are the belts at their records
---   known-names      and their names are those that it holds
+--   known-indices    and their indices are those that it holds
 --   known-cheap      they cost less than costLimit
 --
 -- Assumes nothing.
@@ -35,59 +35,59 @@ use lib.Dec.{eqb}
 use borrow.Author.Tests.{eqb-true, eq-eqb, ne-eqb, not-false}
 use Rattle.plan.specs.declared.read.BeltId.{BeltId}
 use Rattle.plan.specs.Bounds.{maxSteps}
-use Rattle.plan.specs.Lists.{all, kept, keep, mem, within}
-use Rattle.plan.specs.Plan.{Belt, Plan, planOf, beltAt, namesOf, beltId}
+use Rattle.plan.specs.Lists.{all, keepBy, keep, mem, within}
+use Rattle.plan.specs.Plan.{Belt, Plan, planOf, beltAt, indicesOf, beltId}
 use Rattle.plan.specs.Reading.{Accepted, Bytes, IsBelt}
 use Rattle.plan.proofs.Lists.{both, and-is, eqb-sym, within-is, each, all-in, keep-in, keep-none, in-map, joined-in}
 use Rattle.plan.proofs.Rising.{Rises, more}
 use Rattle.plan.proofs.Places.{ids-sets}
-use Rattle.plan.proofs.Reading.{plan-sizes, belt-in, name-belt, belts-rise, belt-ends, belts-cost}
+use Rattle.plan.proofs.Reading.{plan-sizes, belt-in, index-belt, belts-rise, belt-ends, belts-cost}
 use Rattle.route.specs.declared.path.Route.{Route}
-use Rattle.route.specs.Routes.{wrongEnds, IsRoute, connects, cost, costLimit, beltsByName}
+use Rattle.route.specs.Routes.{wrongEnds, IsRoute, connects, cost, costLimit, beltsByIndex}
 use Rattle.route.specs.Permission.{passes}
 use Rattle.route.specs.Values.{idsOf, packed, Known, routeIn}
 
--- ---- the belt of a name
+-- ---- the belt of an index
 
--- of belts whose names rise exactly one has the name of x
-one-named : (x : Belt) (xs : List Belt) → Rises (namesOf xs) → List·Memᴰ x xs → keep (λ (y : Belt). eqb (y .name) (x .name)) xs ≡ x ∷ []
-one-named x [] r m = absurd (List·Memᴰ·not-nil m)
-one-named x (y ∷ ys) (more h r) m = go (List·Memᴰ·cases-cons m) (one-named x ys r)
+-- of belts whose indices rise exactly one has the index of x
+one-indexed : (x : Belt) (xs : List Belt) → Rises (indicesOf xs) → List·Memᴰ x xs → keep (λ (y : Belt). eqb (y .index) (x .index)) xs ≡ x ∷ []
+one-indexed x [] r m = absurd (List·Memᴰ·not-nil m)
+one-indexed x (y ∷ ys) (more h r) m = go (List·Memᴰ·cases-cons m) (one-indexed x ys r)
   where
     same : Belt → Bool
-    same z = eqb (z .name) (x .name)
+    same z = eqb (z .index) (x .index)
 
-    go : (x ≡ y) ⊎ List·Memᴰ x ys → (List·Memᴰ x ys → keep same ys ≡ x ∷ []) → kept (same y) y (keep same ys) ≡ x ∷ []
+    go : (x ≡ y) ⊎ List·Memᴰ x ys → (List·Memᴰ x ys → keep same ys ≡ x ∷ []) → keepBy (same y) y (keep same ys) ≡ x ∷ []
     go (inl e) below =
         let w : y ≡ x = sym e in
-        let n : y .name ≡ x .name = ap (λ (z : Belt). z .name) w in
+        let n : y .index ≡ x .index = ap (λ (z : Belt). z .index) w in
         let rest : keep same ys ≡ [] =
-        keep-none same ys (λ z k. ne-eqb (z .name) (x .name) (λ q. omega (arith, h (z .name) (in-map (λ (v : Belt). v .name) k)))) in
-        λ i. kept (eq-eqb (y .name) (x .name) n i) (w i) (rest i)
+        keep-none same ys (λ z k. ne-eqb (z .index) (x .index) (λ q. omega (arith, h (z .index) (in-map (λ (v : Belt). v .index) k)))) in
+        λ i. keepBy (eq-eqb (y .index) (x .index) n i) (w i) (rest i)
     go (inr k) below =
-        let d : same y ≡ false = ne-eqb (y .name) (x .name) (λ q. omega (arith, h (x .name) (in-map (λ (v : Belt). v .name) k))) in
-        ap (λ (t : Bool). kept t y (keep same ys)) d ∙ below k
+        let d : same y ≡ false = ne-eqb (y .index) (x .index) (λ q. omega (arith, h (x .index) (in-map (λ (v : Belt). v .index) k))) in
+        ap (λ (t : Bool). keepBy t y (keep same ys)) d ∙ below k
 
 pub route-belts : (p : Plan) (s t : ℕ) (r : List Belt) → IsRoute p s t r → (e : Belt) → List·Memᴰ e r → List·Memᴰ e (p .belts)
 route-belts p s t [] h e m = absurd (List·Memᴰ·not-nil m)
 route-belts p s t (f ∷ r) h e m = each (λ (e : Belt). List·Memᴰ e (p .belts)) (h .0) (route-belts p (f .leads) t r (h .2)) e m
 
 module _ {b : List ℕ} (ok : Accepted b) where
-  -- the belts of the plan with the name of one of them
-  the-named : (x : Belt) → List·Memᴰ x (planOf b .belts) → keep (λ (y : Belt). eqb (y .name) (x .name)) (planOf b .belts) ≡ x ∷ []
-  the-named x m = one-named x (planOf b .belts) (belts-rise ok) m
+  -- the belts of the plan with the index of one of them
+  the-indexed : (x : Belt) → List·Memᴰ x (planOf b .belts) → keep (λ (y : Belt). eqb (y .index) (x .index)) (planOf b .belts) ≡ x ∷ []
+  the-indexed x m = one-indexed x (planOf b .belts) (belts-rise ok) m
 
-  pub named-map : (es : List ℕ) → ((e : ℕ) → List·Memᴰ e es → IsBelt b e) → beltsByName (planOf b) es ≡ map (beltAt b) es
-  named-map [] h = refl
-  named-map (e ∷ es) h =
-      λ i. the-named (beltAt b e) (belt-in ok e (h e (List·Memᴰ·head refl))) i ++ named-map es (λ f m. h f (List·Memᴰ·tail m)) i
+  pub indexed-map : (es : List ℕ) → ((e : ℕ) → List·Memᴰ e es → IsBelt b e) → beltsByIndex (planOf b) es ≡ map (beltAt b) es
+  indexed-map [] h = refl
+  indexed-map (e ∷ es) h =
+      λ i. the-indexed (beltAt b e) (belt-in ok e (h e (List·Memᴰ·head refl))) i ++ indexed-map es (λ f m. h f (List·Memᴰ·tail m)) i
 
-  pub names-belts : (r : List Belt) → ((e : Belt) → List·Memᴰ e r → List·Memᴰ e (planOf b .belts)) → beltsByName (planOf b) (namesOf r) ≡ r
-  names-belts [] h = refl
-  names-belts (x ∷ r) h = λ i. the-named x (h x (List·Memᴰ·head refl)) i ++ names-belts r (λ f m. h f (List·Memᴰ·tail m)) i
+  pub indices-belts : (r : List Belt) → ((e : Belt) → List·Memᴰ e r → List·Memᴰ e (planOf b .belts)) → beltsByIndex (planOf b) (indicesOf r) ≡ r
+  indices-belts [] h = refl
+  indices-belts (x ∷ r) h = λ i. the-indexed x (h x (List·Memᴰ·head refl)) i ++ indices-belts r (λ f m. h f (List·Memᴰ·tail m)) i
 
-  pub known-belts : (es : List ℕ) → all (λ (e : ℕ). mem e (namesOf (planOf b .belts))) es ≡ true → (e : ℕ) → List·Memᴰ e es → IsBelt b e
-  known-belts es h e m = name-belt ok e (all-in (λ (e : ℕ). mem e (namesOf (planOf b .belts))) es h m)
+  pub known-belts : (es : List ℕ) → all (λ (e : ℕ). mem e (indicesOf (planOf b .belts))) es ≡ true → (e : ℕ) → List·Memᴰ e es → IsBelt b e
+  known-belts es h e m = index-belt ok e (all-in (λ (e : ℕ). mem e (indicesOf (planOf b .belts))) es h m)
 
   -- ---- routes
 
@@ -112,19 +112,19 @@ module _ {b : List ℕ} (ok : Accepted b) where
   pub route-cheap : Bytes b → (s t : ℕ) (r : List Belt) → t ≤ planOf b .junctions → IsRoute (planOf b) s t r → cost r < costLimit
   route-cheap bytes s t r inside h = omega (arith, sum-cost bytes r (route-belts (planOf b) s t r h), route-length s t r h, plan-sizes ok .1)
 
-pub named-in : (p : Plan) (es : List ℕ) (e : Belt) → List·Memᴰ e (beltsByName p es) → List·Memᴰ e (p .belts)
-named-in p es e m =
-    let (n, i, k) = joined-in (λ (n : ℕ). keep (λ (x : Belt). eqb (x .name) n) (p .belts)) es m in
-    keep-in (λ (x : Belt). eqb (x .name) n) (p .belts) k .0
+pub indexed-in : (p : Plan) (es : List ℕ) (e : Belt) → List·Memᴰ e (beltsByIndex p es) → List·Memᴰ e (p .belts)
+indexed-in p es e m =
+    let (n, i, k) = joined-in (λ (n : ℕ). keep (λ (x : Belt). eqb (x .index) n) (p .belts)) es m in
+    keep-in (λ (x : Belt). eqb (x .index) n) (p .belts) k .0
 
 pub route-connects : (p : Plan) (s t : ℕ) (r : List Belt) → IsRoute p s t r → connects s t r ≡ true
 route-connects p s t [] h = eq-eqb s t h
 route-connects p s t (e ∷ r) h =
     and-is (eqb (e .leaves) s) (connects (e .leads) t r) (eq-eqb (e .leaves) s (h .1)) (route-connects p (e .leads) t r (h .2))
 
-pub passes-names : (r : List Belt) (e : ℕ) → passes r e ≡ mem e (namesOf r)
-passes-names [] e = refl
-passes-names (x ∷ r) e = λ i. eqb-sym (x .name) e i || passes-names r e i
+pub passes-indices : (r : List Belt) (e : ℕ) → passes r e ≡ mem e (indicesOf r)
+passes-indices [] e = refl
+passes-indices (x ∷ r) e = λ i. eqb-sym (x .index) e i || passes-indices r e i
 
 pub ends-junctions : (p : Plan) (s t : ℕ) → wrongEnds p s t ≡ false → (1 ≤ s) × (s ≤ p .junctions) × (1 ≤ t) × (t ≤ p .junctions)
 ends-junctions p s t h =
@@ -146,13 +146,13 @@ pub packed-sets : (es : List ℕ) → length es ≤ maxSteps → sets (replicate
 packed-sets = ids-sets maxSteps
 
 pub known-route : {b : List ℕ} → Accepted b → (r : Route) → Known b r → routeIn b r ≡ map (beltAt b) (idsOf r)
-known-route ok r k = named-map ok (idsOf r) (k .belts)
+known-route ok r k = indexed-map ok (idsOf r) (k .belts)
 
-pub known-names : {b : List ℕ} → Accepted b → (r : Route) → Known b r → namesOf (routeIn b r) ≡ idsOf r
-known-names {b} ok r k = ap namesOf (known-route ok r k) ∙ map-map (λ (e : Belt). e .name) (beltAt b) (idsOf r) ∙ map-id (idsOf r)
+pub known-indices : {b : List ℕ} → Accepted b → (r : Route) → Known b r → indicesOf (routeIn b r) ≡ idsOf r
+known-indices {b} ok r k = ap indicesOf (known-route ok r k) ∙ map-map (λ (e : Belt). e .index) (beltAt b) (idsOf r) ∙ map-id (idsOf r)
 
 pub known-cheap : {b : List ℕ} → Accepted b → Bytes b → (r : Route) → Known b r → cost (routeIn b r) < costLimit
 known-cheap {b} ok bytes r k =
-    let sum = sum-cost ok bytes (routeIn b r) (named-in (planOf b) (idsOf r)) in
-    let size : length (routeIn b r) ≡ length (idsOf r) = sym (length-map (routeIn b r) (λ (e : Belt). e .name)) ∙ ap length (known-names ok r k) in
+    let sum = sum-cost ok bytes (routeIn b r) (indexed-in (planOf b) (idsOf r)) in
+    let size : length (routeIn b r) ≡ length (idsOf r) = sym (length-map (routeIn b r) (λ (e : Belt). e .index)) ∙ ap length (known-indices ok r k) in
     omega (arith, sum, size, k .few, length-map (take (r .count) (r .belts)) (λ (e : BeltId). e .0), length-take (r .count) (r .belts))

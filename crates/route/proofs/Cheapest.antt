@@ -67,22 +67,22 @@ module _ {x : Subproblem} {costs : List ℕ} {nearest : ℕ} where
 
     -- the way once e is looked at
     abbrev after : Bool → Way
-    after less = elim less [ true ↦ made price (beltId (e .name)) false | false ↦ made k g false ]
+    after less = elim less [ true ↦ made price (beltId (e .index)) false | false ↦ made k g false ]
 
     looked : (less : Bool) → ltb price k ≡ less → wayBy x costs nearest (after less) es ≡ whole
     looked less h =
         sym (ap (λ (t : Bool). wayBy x costs nearest (after t) es) h)
-        ∙ sym (ap (λ (w : Bool). wayBy x costs nearest (preferred (made k g false) (beltId (e .name)) price w) es) (others .0))
+        ∙ sym (ap (λ (w : Bool). wayBy x costs nearest (preferred (made k g false) (beltId (e .index)) price w) es) (others .0))
         ∙ c .same
 
-    pub cheap-taken : over < k → shut ≡ false → Cheap x costs nearest whole over (beltId (e .name)) es
+    pub cheap-taken : over < k → shut ≡ false → Cheap x costs nearest whole over (beltId (e .index)) es
     cheap-taken l h =
         let best = c .low in
         let is : price ≡ over = open-price h (λ q. omega arith) in
         record {
           low = omega arith;
           free = others .1;
-          same = ap (λ (n : ℕ). wayBy x costs nearest (made n (beltId (e .name)) false) es) (sym is) ∙ looked true (lt-ltb price k (omega arith));
+          same = ap (λ (n : ℕ). wayBy x costs nearest (made n (beltId (e .index)) false) es) (sym is) ∙ looked true (lt-ltb price k (omega arith));
         }
 
     -- it gets no cheaper by e

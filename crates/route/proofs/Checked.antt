@@ -20,7 +20,7 @@ use Prim.Native.Nat.{ℕ, _^_, _≤_}
 use mathlib.Core.List.{List, [], _∷_, map, List·Memᴰ, List·Memᴰ·head, List·Memᴰ·tail, List·Memᴰ·eq-of-singleton, List·Memᴰ·append-cases, Memᴰ·append-left, Memᴰ·append-right}
 use lib.Dec.{eqb, ltb}
 use Rattle.plan.specs.Lists.{all, mem, within}
-use Rattle.plan.specs.Plan.{planOf, namesOf}
+use Rattle.plan.specs.Plan.{planOf, indicesOf}
 use Rattle.plan.specs.Refusals.{Line, about, planLines, firstBroken, refusal}
 use Rattle.plan.specs.Claims.{Unbroken}
 use Rattle.plan.specs.Reading.{Accepted}
@@ -28,7 +28,7 @@ use Rattle.plan.proofs.Lists.{and-is, is-within}
 use Rattle.plan.proofs.First.{front-first, on-broken, past, none-broken, first-exactly, passed, first-about, unbroken-about, about-unbroken}
 use Rattle.route.specs.Refusals.{PlanTrip, Case, planTrip, broken8, broken11, broken12, broken13, broken14, line8, tripLines, sheetLines, checkLines, sheetRefusal}
 use Rattle.route.specs.declared.sheet.Sheet.{Sheet}
-use Rattle.route.specs.Routes.{wrongEnds, connects, cost, beltsByName}
+use Rattle.route.specs.Routes.{wrongEnds, connects, cost, beltsByIndex}
 use Rattle.route.specs.Permission.{passes, termsOf, works}
 use Rattle.route.specs.Sheets.{inForm, beltsOn, costOn, settingOn}
 use Rattle.route.specs.Values.{idsOf}
@@ -125,8 +125,8 @@ module _ (k : Case) (fine : Unbroken tripLines (planTrip k)) where
   by : Bool → List ℕ → ℕ → ℕ → ℕ
   by form es c σ =
       let p = planOf (k .plan) in
-      let r = beltsByName p es in
-      sheetBy (not (form && all (λ (e : ℕ). mem e (namesOf (p .belts))) es && ltb σ (2 ^ p .modes))) (not (connects (k .trip .s) (k .trip .t) r))
+      let r = beltsByIndex p es in
+      sheetBy (not (form && all (λ (e : ℕ). mem e (indicesOf (p .belts))) es && ltb σ (2 ^ p .modes))) (not (connects (k .trip .s) (k .trip .t) r))
       (not (eqb (cost r) c)) (not (works (termsOf p (k .trip)) (passes r) σ))
 
   by-content : sheetRefusal k ≡ by (inForm (k .sheet)) (beltsOn (k .sheet)) (costOn (k .sheet)) (settingOn (k .sheet))

@@ -16,7 +16,7 @@ use borrow.Author.Tests.{eqb-true, eq-eqb, ltb-true, ltb-false}
 use Rattle.plan.specs.Plan.{Belt, Plan, planOf}
 use Rattle.plan.specs.Reading.{Accepted}
 use Rattle.plan.proofs.Lists.{test, each, in-any, any-some}
-use Rattle.plan.proofs.Reading.{belt-name, belt-ends}
+use Rattle.plan.proofs.Reading.{belt-index, belt-ends}
 use Rattle.route.specs.Routes.{IsRoute}
 use Rattle.route.specs.Permission.{passes}
 use Rattle.route.specs.Subproblems.{Crosses, Restricts}
@@ -24,15 +24,15 @@ use Rattle.route.specs.Claims.{CutClaim}
 use Rattle.route.proofs.ByName.{route-belts}
 use Rattle.route.proofs.Order.{upward-claim}
 
-pub in-passes : (r : List Belt) (g : Belt) → List·Memᴰ g r → passes r (g .name) ≡ true
-in-passes r g m = in-any (λ (f : Belt). eqb (f .name) (g .name)) r m (eq-eqb (g .name) (g .name) refl)
+pub in-passes : (r : List Belt) (g : Belt) → List·Memᴰ g r → passes r (g .index) ≡ true
+in-passes r g m = in-any (λ (f : Belt). eqb (f .index) (g .index)) r m (eq-eqb (g .index) (g .index) refl)
 
 module _ {b : List ℕ} (ok : Accepted b) where
   pub on-route : (s t : ℕ) (r : List Belt) → IsRoute (planOf b) s t r
-      → (g : Belt) → List·Memᴰ g (planOf b .belts) → passes r (g .name) ≡ true → List·Memᴰ g r
+      → (g : Belt) → List·Memᴰ g (planOf b .belts) → passes r (g .index) ≡ true → List·Memᴰ g r
   on-route s t r h g m k =
-      let (f, i, e) = any-some (λ (f : Belt). eqb (f .name) (g .name)) r k in
-      let same : f ≡ g = belt-name ok f g (route-belts (planOf b) s t r h f i) m (eqb-true (f .name) (g .name) e) in
+      let (f, i, e) = any-some (λ (f : Belt). eqb (f .index) (g .index)) r k in
+      let same : f ≡ g = belt-index ok f g (route-belts (planOf b) s t r h f i) m (eqb-true (f .index) (g .index) e) in
       Memᴰ·cast (sym same) i
 
   pub route-between : (s t : ℕ) (r : List Belt) → IsRoute (planOf b) s t r → (e : Belt) → List·Memᴰ e r → (s ≤ e .leaves) × (e .leads ≤ t)
@@ -73,13 +73,13 @@ crossing p s t u (a ∷ r) h l k = go (test (ltb u (a .leads))) (λ n. crossing 
 pub cut-claim : CutClaim
 cut-claim b ok s t r h g m = (to, from)
   where
-    to : passes r (g .name) ≡ true → Restricts s t g r
+    to : passes r (g .index) ≡ true → Restricts s t g r
     to k =
         let i : List·Memᴰ g r = on-route ok s t r h g m k in
         let (l, u) = route-between ok s t r h g i in
         record { from = l; before-t = omega (arith, belt-ends ok g m .1, u); cut = λ e j c. alone ok s t r h g e i j c }
 
-    from : Restricts s t g r → passes r (g .name) ≡ true
+    from : Restricts s t g r → passes r (g .index) ≡ true
     from k =
         let (e, i, c) = crossing (planOf b) s t (g .leaves) r h (k .from) (k .before-t) in
         in-passes r g (Memᴰ·cast (sym (k .cut e i c)) i)

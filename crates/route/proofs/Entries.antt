@@ -32,11 +32,11 @@ use lib.Seq.{getD-set-same, getD-set-other}
 use lib.Dec.{eqb}
 use borrow.Author.Tests.{eqb-true, eqb-false}
 use Rattle.plan.specs.Bounds.{fieldLimit, maxRecords}
-use Rattle.plan.specs.Lists.{mem, joined, run}
+use Rattle.plan.specs.Lists.{mem, joined, iota}
 use Rattle.plan.specs.Records.{records}
 use Rattle.plan.specs.Plan.{literalAt}
 use Rattle.plan.specs.Reading.{Accepted, IsRule, IsLiteral, isRuleAt, isLiteralAt, firstRule, nextRule, firstLiteral, nextLiteral, ruleChain, literalChain}
-use Rattle.plan.proofs.Lists.{test, never, untrue, in-mem, in-joined, length-run, getD-first, map-first}
+use Rattle.plan.proofs.Lists.{test, never, untrue, in-mem, in-joined, length-iota, getD-first, map-first}
 use Rattle.plan.proofs.Reading.{first-rule-is, next-rule-is, first-literal-is, next-literal-is, rule-chain-end, rule-chain-next, literal-chain-end, literal-chain-next}
 use Rattle.plan.proofs.Reading.{records-more, rule-test, literal-test, not-rule, rule-low, literal-low, rule-on-chain, literal-on-chain}
 use Rattle.route.specs.Values.{namedPlaces, codeIn, ruleEntry, literalEntry, entryBy, entryOf, clausesIn, Clauses}
@@ -88,12 +88,12 @@ entry-at b n i h = getD-first (entryOf b) (n - 0) i 0 (omega arith)
 
 length-clauses : (b : List ℕ) (n : ℕ) → length (clausesIn n b) ≡ n
 unfolding clausesIn
-length-clauses b n = omega (arith, length-map (run 0 (n - 0)) (entryOf b), length-run 0 (n - 0))
+length-clauses b n = omega (arith, length-map (iota 0 (n - 0)) (entryOf b), length-iota 0 (n - 0))
 
 pub clauses-lent : {b : List ℕ} (n : ℕ) {cs : List ℕ} → records b ≤ n → cs ≡ clausesIn n b → Clauses b cs
 clauses-lent {b} n {cs} h e =
     let size : length cs ≡ n = ap length e ∙ length-clauses b n in
-    record { whole = e ∙ sym (ap (λ (m : ℕ). clausesIn m b) size); room = omega arith }
+    record { whole = e ∙ sym (ap (λ (m : ℕ). clausesIn m b) size); records-fit = omega arith }
 
 -- a number of two parts
 parts : (x y n : ℕ) → n ≡ x + fieldLimit * y → x < maxRecords → (n % fieldLimit ≡ x) × (n / fieldLimit ≡ y)
@@ -123,7 +123,7 @@ module _ {b : List ℕ} (ok : Accepted b) where
 
   module _ {clauses : List ℕ} (all : Clauses b clauses) where
     entry-in : (i : ℕ) → i < records b → getD clauses i 0 ≡ entryOf b i
-    entry-in i h = ap (λ (l : List ℕ). getD l i 0) (all .whole) ∙ entry-at b (length clauses) i (omega (arith, all .room))
+    entry-in i h = ap (λ (l : List ℕ). getD l i 0) (all .whole) ∙ entry-at b (length clauses) i (omega (arith, all .records-fit))
 
     pub first-entry : getD clauses 0 0 ≡ firstRule b
     unfolding entryOf

@@ -1,6 +1,6 @@
 -- `routes` lists exactly the routes from s to t, each once.
 --
---   leaving-rises     the belts leaving a junction have rising names
+--   leaving-rises     the belts leaving a junction have rising indices
 --   routes-claim      the listed lists are the routes, and none is listed twice (RoutesClaim)
 --
 -- Assumes nothing.
@@ -12,8 +12,8 @@ use mathlib.Core.List.{List, [], _∷_, _++_, map, List·Memᴰ, List·Memᴰ·h
 use native.Mathlib.Omega.{arith}
 use lib.Dec.{eqb}
 use borrow.Author.Tests.{eqb-true, eq-eqb, ne-eqb}
-use Rattle.plan.specs.Lists.{kept, keep, joined}
-use Rattle.plan.specs.Plan.{Belt, Plan, planOf, namesOf, leaving}
+use Rattle.plan.specs.Lists.{keepBy, keep, joined}
+use Rattle.plan.specs.Plan.{Belt, Plan, planOf, indicesOf, leaving}
 use Rattle.plan.specs.Reading.{Accepted}
 use Rattle.plan.proofs.Lists.{keep-in, in-map, map-in, in-joined, joined-in}
 use Rattle.plan.proofs.Rising.{Rises, more}
@@ -106,8 +106,8 @@ distinct-cons e (r ∷ rs) d = (λ m. go (map-in (λ (q : List Belt). e ∷ q) r
     go : (q : List Belt) × List·Memᴰ q rs × (_≡_ {A = List Belt} (e ∷ r) (e ∷ q)) → ⊥
     go (q, k, w) = let z : r ≡ q = cc in d .0 (Memᴰ·cast z k)
 
--- belts of rising names in front: the routes by different belts differ
-distinct-joined : (f : ℕ → List (List Belt)) → ((u : ℕ) → Distinct (f u)) → (es : List Belt) → Rises (namesOf es) → Distinct (joined (via f) es)
+-- belts of rising indices in front: the routes by different belts differ
+distinct-joined : (f : ℕ → List (List Belt)) → ((u : ℕ) → Distinct (f u)) → (es : List Belt) → Rises (indicesOf es) → Distinct (joined (via f) es)
 distinct-joined f d [] r = tt
 distinct-joined f d (e ∷ es) (more h r) =
     distinct-append (via f e) (joined (via f) es) (distinct-cons e (f (e .leads)) (d (e .leads))) (distinct-joined f d es r) apart
@@ -118,25 +118,25 @@ distinct-joined f d (e ∷ es) (more h r) =
         let (g, i, n) = joined-in (via f) es l in
         let (y, o, w) = map-in (λ (r : List Belt). g ∷ r) (f (g .leads)) n in
         let z : e ≡ g = cc in
-        let same : e .name ≡ g .name = ap (λ (u : Belt). u .name) z in
-        omega (arith, h (g .name) (in-map (λ (u : Belt). u .name) i))
+        let same : e .index ≡ g .index = ap (λ (u : Belt). u .index) z in
+        omega (arith, h (g .index) (in-map (λ (u : Belt). u .index) i))
 
--- what is kept of belts of rising names has rising names
-keep-names-rise : (f : Belt → Bool) (xs : List Belt) → Rises (namesOf xs) → Rises (namesOf (keep f xs))
-keep-names-rise f [] r = r
-keep-names-rise f (x ∷ xs) (more h r) = go (f x) (keep-names-rise f xs r)
+-- what is kept of belts of rising indices has rising indices
+keep-indices-rise : (f : Belt → Bool) (xs : List Belt) → Rises (indicesOf xs) → Rises (indicesOf (keep f xs))
+keep-indices-rise f [] r = r
+keep-indices-rise f (x ∷ xs) (more h r) = go (f x) (keep-indices-rise f xs r)
   where
-    above : (n : ℕ) → List·Memᴰ n (namesOf (keep f xs)) → x .name < n
+    above : (n : ℕ) → List·Memᴰ n (indicesOf (keep f xs)) → x .index < n
     above n m =
-        let (y, k, e) = map-in (λ (u : Belt). u .name) (keep f xs) m in
-        h n (Memᴰ·cast e (in-map (λ (u : Belt). u .name) (keep-in f xs k .0)))
+        let (y, k, e) = map-in (λ (u : Belt). u .index) (keep f xs) m in
+        h n (Memᴰ·cast e (in-map (λ (u : Belt). u .index) (keep-in f xs k .0)))
 
-    go : (t : Bool) → Rises (namesOf (keep f xs)) → Rises (namesOf (kept t x (keep f xs)))
+    go : (t : Bool) → Rises (indicesOf (keep f xs)) → Rises (indicesOf (keepBy t x (keep f xs)))
     go true k = more above k
     go false k = k
 
-pub leaving-rises : {b : List ℕ} → Accepted b → (j : ℕ) → Rises (namesOf (leaving (planOf b) j))
-leaving-rises {b} ok j = keep-names-rise (λ (e : Belt). eqb (e .leaves) j) (planOf b .belts) (belts-rise ok)
+pub leaving-rises : {b : List ℕ} → Accepted b → (j : ℕ) → Rises (indicesOf (leaving (planOf b) j))
+leaving-rises {b} ok j = keep-indices-rise (λ (e : Belt). eqb (e .leaves) j) (planOf b .belts) (belts-rise ok)
 
 from-distinct : (here : Bool) (rs : List (List Belt)) → Distinct rs → Distinct (from here rs)
 from-distinct true rs d = (λ m. List·Memᴰ·not-nil m, tt)

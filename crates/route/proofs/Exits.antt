@@ -25,7 +25,7 @@ use lib.Dec.{eqb, ltb}
 use borrow.Author.Tests.{ne-eqb, ltb-true, ltb-false}
 use Rattle.plan.specs.Bounds.{junctionPlaces, maxRecords}
 use Rattle.plan.specs.Lists.{any, mem, upto}
-use Rattle.plan.specs.Plan.{Belt, planOf, namesOf, leaving, named}
+use Rattle.plan.specs.Plan.{Belt, planOf, indicesOf, leaving, named}
 use Rattle.plan.specs.Reading.{Accepted}
 use Rattle.plan.proofs.Lists.{test, both, and-is, never, untrue, alike, none-any, in-any, any-some, in-keep, keep-in, keep-none, in-map, map-in, getD-first, map-first, in-upto, upto-in, in-mem, mem-in}
 use Rattle.plan.proofs.Naming.{named-rises}
@@ -37,7 +37,7 @@ use Rattle.route.proofs.Fixed.{fixes, has-named, fixed-mem, nothing-has
 use Rattle.route.proofs.Onward.{AllOwed}
 
 abbrev pub exit-mask : List ℕ → ℕ → ℕ
-exit-mask b u = maskOf b (namesOf (leaving (planOf b) u))
+exit-mask b u = maskOf b (indicesOf (leaving (planOf b) u))
 
 -- ---- the array of masks
 
@@ -54,7 +54,7 @@ module _ {b : List ℕ} (ok : Accepted b) where
   -- no belt leaves what is no junction
   none-leave : (u : ℕ) → (1 ≤ u → u ≤ planOf b .junctions → ⊥) → exit-mask b u ≡ 0
   none-leave u out =
-      ap (λ (es : List Belt). maskOf b (namesOf es))
+      ap (λ (es : List Belt). maskOf b (indicesOf es))
       (keep-none (λ (e : Belt). eqb (e .leaves) u) (planOf b .belts) (λ e m.
       let (low, up, top) = belt-ends ok e m in
       ne-eqb (e .leaves) u (λ q. out (omega arith) (omega arith))))
@@ -99,40 +99,40 @@ module _ {b : List ℕ} (ok : Accepted b) where
   ns = named (planOf b)
 
   -- the mask of a junction has a named belt exactly when it leaves the junction
-  exit-has : (u e : ℕ) → u < junctionPlaces → List·Memᴰ e ns → fixes ns (getD (exitsOf b) u 0) e ≡ mem e (namesOf (leaving (planOf b) u))
+  exit-has : (u e : ℕ) → u < junctionPlaces → List·Memᴰ e ns → fixes ns (getD (exitsOf b) u 0) e ≡ mem e (indicesOf (leaving (planOf b) u))
   exit-has u e l i =
       ap (λ (m : ℕ). fixes ns m e) (exit-at b u l)
-      ∙ gathered-from (named-rises b) refl (namesOf (leaving (planOf b) u)) low e i
+      ∙ gathered-from (named-rises b) refl (indicesOf (leaving (planOf b) u)) low e i
     where
-      low : (n : ℕ) → List·Memᴰ n (namesOf (leaving (planOf b) u)) → n < maxRecords
+      low : (n : ℕ) → List·Memᴰ n (indicesOf (leaving (planOf b) u)) → n < maxRecords
       low n m =
-          let (g, k, q) = map-in (λ (f : Belt). f .name) (leaving (planOf b) u) m in
-          omega (arith, q, belt-low ok (g .name) (belt-of ok g (leaving-in (planOf b) u g k .0) .0) .2)
+          let (g, k, q) = map-in (λ (f : Belt). f .index) (leaving (planOf b) u) m in
+          omega (arith, q, belt-low ok (g .index) (belt-of ok g (leaving-in (planOf b) u g k .0) .0) .2)
 
   module _ (f : Fixings) (u : ℕ) (l : u < junctionPlaces) where
     pub required-hit : (e : Belt) → List·Memᴰ e (leaving (planOf b) u) → isRequired (subproblemIn b f) e ≡ true
-        → fixes (named (planOf b)) (bitAnd (getD (exitsOf b) u 0) (f .required)) (e .name) ≡ true
+        → fixes (named (planOf b)) (bitAnd (getD (exitsOf b) u 0) (f .required)) (e .index) ≡ true
     required-hit e m w =
-        let needed : fixes ns (f .required) (e .name) ≡ true = sym (fixed-mem ns (f .required) (e .name)) ∙ w in
-        let leaves : fixes ns (getD (exitsOf b) u 0) (e .name) ≡ true =
-        exit-has u (e .name) l (has-named ns (f .required) (e .name) needed) ∙ in-mem (namesOf (leaving (planOf b) u)) (in-map (λ (g : Belt). g .name) m) in
-        common-fixes ns (getD (exitsOf b) u 0) (f .required) (e .name)
-        ∙ and-is (fixes ns (getD (exitsOf b) u 0) (e .name)) (fixes ns (f .required) (e .name)) leaves needed
+        let needed : fixes ns (f .required) (e .index) ≡ true = sym (fixed-mem ns (f .required) (e .index)) ∙ w in
+        let leaves : fixes ns (getD (exitsOf b) u 0) (e .index) ≡ true =
+        exit-has u (e .index) l (has-named ns (f .required) (e .index) needed) ∙ in-mem (indicesOf (leaving (planOf b) u)) (in-map (λ (g : Belt). g .index) m) in
+        common-fixes ns (getD (exitsOf b) u 0) (f .required) (e .index)
+        ∙ and-is (fixes ns (getD (exitsOf b) u 0) (e .index)) (fixes ns (f .required) (e .index)) leaves needed
 
     pub hit-required : (n : ℕ) → fixes (named (planOf b)) (bitAnd (getD (exitsOf b) u 0) (f .required)) n ≡ true
-        → (e : Belt) × List·Memᴰ e (leaving (planOf b) u) × (n ≡ e .name) × (isRequired (subproblemIn b f) e ≡ true)
+        → (e : Belt) × List·Memᴰ e (leaving (planOf b) u) × (n ≡ e .index) × (isRequired (subproblemIn b f) e ≡ true)
     hit-required n w =
         let exit = getD (exitsOf b) u 0 in
         let (leaves, needed) = both (fixes ns exit n) (fixes ns (f .required) n) (sym (common-fixes ns exit (f .required) n) ∙ w) in
         let i = has-named ns (f .required) n needed in
-        let (e, m, q) = map-in (λ (d : Belt). d .name) (leaving (planOf b) u) (mem-in (namesOf (leaving (planOf b) u)) (sym (exit-has u n l i) ∙ leaves)) in
-        (e, m, q, fixed-mem ns (f .required) (e .name) ∙ ap (fixes ns (f .required)) (sym q) ∙ needed)
+        let (e, m, q) = map-in (λ (d : Belt). d .index) (leaving (planOf b) u) (mem-in (indicesOf (leaving (planOf b) u)) (sym (exit-has u n l i) ∙ leaves)) in
+        (e, m, q, fixed-mem ns (f .required) (e .index) ∙ ap (fixes ns (f .required)) (sym q) ∙ needed)
 
     pub none-required : bitAnd (getD (exitsOf b) u 0) (f .required) ≡ 0 → any (isRequired (subproblemIn b f)) (leaving (planOf b) u) ≡ false
     none-required h =
         none-any (isRequired (subproblemIn b f)) (leaving (planOf b) u) (λ e m.
         untrue (isRequired (subproblemIn b f) e) (λ w.
-        never (required-hit e m w) (ap (λ (m : ℕ). fixes ns m (e .name)) h ∙ nothing-has ns (e .name))))
+        never (required-hit e m w) (ap (λ (m : ℕ). fixes ns m (e .index)) h ∙ nothing-has ns (e .index))))
 
   -- ---- the masks of some junctions, joined
 
@@ -161,7 +161,7 @@ module _ {b : List ℕ} (ok : Accepted b) where
         let has = both (fixes ns (f .required) n) (fixes ns inside n) (sym (common-fixes ns (f .required) inside n) ∙ ap (λ (a : ℕ). fixes ns a n) h ∙ k) .1 in
         let (u, j, v) = any-some (leavesAt n) (upto s t) (sym (inside-has n) ∙ has) in
         let (l, r) = upto-in s t u j in
-        let (g, q, e) = map-in (λ (d : Belt). d .name) (leaving (planOf b) u) (mem-in (namesOf (leaving (planOf b) u)) (sym (exit-has u n (omega arith) i) ∙ v)) in
+        let (g, q, e) = map-in (λ (d : Belt). d .index) (leaving (planOf b) u) (mem-in (indicesOf (leaving (planOf b) u)) (sym (exit-has u n (omega arith) i) ∙ v)) in
         let (o, at) = leaving-in (planOf b) u g q in
         (g, record { belt = o; wanted = in-mem (fixedIn ns (f .required)) (Memᴰ·cast (sym e) m); from = omega arith; before-t = omega arith }, e)
 
@@ -175,7 +175,7 @@ module _ {b : List ℕ} (ok : Accepted b) where
         has : (e : ℕ) → List·Memᴰ e ns → fixes ns (f .required) e ≡ true → fixes ns inside e ≡ true
         has e i k =
             let (g, l, q) = owed e (in-keep (fixes ns (f .required)) ns i k) in
-            let leaves = in-map (λ (d : Belt). d .name) (in-leaving (planOf b) (g .leaves) g (l .belt) refl) in
+            let leaves = in-map (λ (d : Belt). d .index) (in-leaving (planOf b) (g .leaves) g (l .belt) refl) in
             inside-has e
             ∙ in-any (leavesAt e) (upto s t) (in-upto s t (g .leaves) (l .from) (l .before-t))
-            (exit-has (g .leaves) e (omega (arith, l .before-t)) i ∙ in-mem (namesOf (leaving (planOf b) (g .leaves))) (Memᴰ·cast q leaves))
+            (exit-has (g .leaves) e (omega (arith, l .before-t)) i ∙ in-mem (indicesOf (leaving (planOf b) (g .leaves))) (Memᴰ·cast q leaves))

@@ -55,7 +55,7 @@ modeSays σ m = says (isOn σ m) (free m)
 -- an arc is on the path of r exactly where r passes its belt
 on-path : (r : List Belt) (a : Arc) → onPath (map arcOf r) a ≡ passes r (a .number)
 on-path [] a = refl
-on-path (e ∷ r) a = ap (λ (w : Bool). eqb (e .name) (a .number) || w) (on-path r a)
+on-path (e ∷ r) a = ap (λ (w : Bool). eqb (e .index) (a .number) || w) (on-path r a)
 
 module _ (r : List Belt) (σ : ℕ) where
   -- the value that route and setting give a variable

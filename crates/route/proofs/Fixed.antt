@@ -31,13 +31,13 @@ use Rattle.plan.specs.declared.named.Place.{Place}
 use Rattle.plan.specs.declared.named.Place.the-variants.{At, Unnamed}
 use Rattle.plan.specs.Bounds.{maxRecords}
 use Rattle.plan.specs.Lists.{count, mem}
-use Rattle.plan.specs.Plan.{planOf, namesOf, named, placeBy, placeOf, placesOf, placeIn}
+use Rattle.plan.specs.Plan.{planOf, indicesOf, named, placeBy, placeOf, placesOf, placeIn}
 use Rattle.plan.specs.Reading.{Accepted}
 use Rattle.plan.proofs.Lists.{test, never, alike, in-keep, keep-in, in-mem, mem-in}
 use Rattle.plan.proofs.Rising.{Rises}
 use Rattle.plan.proofs.Naming.{named-in, named-rises}
 use Rattle.plan.proofs.Places.{at-place, place-at, place-in, place-is}
-use Rattle.plan.proofs.Reading.{belt-named, named-few}
+use Rattle.plan.proofs.Reading.{belt-indexed, named-few}
 use Rattle.route.specs.Values.{inMask, fixedIn, namedPlaces, LowPlace, withPlace, gatheredIn}
 use Rattle.route.proofs.Bits.{or-set, or-power, and-set, bits-equal}
 
@@ -72,8 +72,8 @@ pub looked-up : (b : List ℕ) {places : List ℕ} {q : Place} (e : ℕ) → pla
 looked-up b e all one low = one ∙ ap (λ (l : List ℕ). placeIn l e) all ∙ place-is (named (planOf b)) e low
 
 module _ {b : List ℕ} (ok : Accepted b) where
-  pub fixed-belt : (m e : ℕ) → List·Memᴰ e (fixedIn (named (planOf b)) m) → mem e (namesOf (planOf b .belts)) ≡ true
-  fixed-belt m e i = belt-named ok e (named-in b e (keep-in (fixes (named (planOf b)) m) (named (planOf b)) i .0))
+  pub fixed-belt : (m e : ℕ) → List·Memᴰ e (fixedIn (named (planOf b)) m) → mem e (indicesOf (planOf b .belts)) ≡ true
+  fixed-belt m e i = belt-indexed ok e (named-in b e (keep-in (fixes (named (planOf b)) m) (named (planOf b)) i .0))
 
   pub place-low : (e : ℕ) → LowPlace (placeOf (named (planOf b)) e)
   place-low e = go (mem e ns) refl

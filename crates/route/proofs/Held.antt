@@ -1,9 +1,9 @@
 -- The belts that a Route holds, one after the other, and those from place k on.
 --
 --   places              the array has maxSteps places, in the form in which owning a Route gives that fact
---   firstIds k belts    the names of the first k of an array of belts; length-first: there are k
---   first-more          one more of them is one more name at the end
---   ids-next, ids-end   the names that a Route holds are its first `count`: the next of them, and the end
+--   firstIds k belts    the indices of the first k of an array of belts; length-first: there are k
+--   first-more          one more of them is one more index at the end
+--   ids-next, ids-end   the indices that a Route holds are its first `count`: the next of them, and the end
 --   ids-at              the belt at place k is one of them
 --   left b r k          the belts of the plan from place k on; left-start, left-next, left-end
 --   at-belt             the belt at place k is a belt of the plan
@@ -26,7 +26,7 @@ use Rattle.route.proofs.ByName.{known-route}
 pub places : (r : Route) {n : ℕ} → length (map {B = ℕ × Unit {0}} (λ (e : BeltId). (e .0, tt)) (r .belts)) ≡ n → length (r .belts) ≡ n
 places r h = sym (length-map {B = ℕ × Unit {0}} (r .belts) (λ (e : BeltId). (e .0, tt))) ∙ h
 
--- ---- the names
+-- ---- the indices
 
 abbrev pub firstIds : ℕ → List BeltId → List ℕ
 firstIds k belts = map (λ (e : BeltId). e .0) (take k belts)

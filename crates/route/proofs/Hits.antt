@@ -22,7 +22,7 @@ use borrow.Author.Tests.{eqb-true, eq-eqb, ltb-true, ltb-false}
 use Rattle.plan.specs.declared.read.BeltId.{BeltId}
 use Rattle.plan.specs.declared.named.Place.the-variants.{At}
 use Rattle.plan.specs.Bounds.{junctionPlaces}
-use Rattle.plan.specs.Lists.{counted, count}
+use Rattle.plan.specs.Lists.{countBy, count}
 use Rattle.plan.specs.Plan.{Belt, planOf, beltAt, leaving, named, beltId, listed, placeOf}
 use Rattle.plan.specs.Reading.{Accepted, IsBelt}
 use Rattle.plan.proofs.Lists.{test, both, and-is, never, untrue, alike, any-none, any-some}
@@ -47,7 +47,7 @@ fewer a c h [] = omega arith
 fewer a c h (n ∷ ns) = go (ltb n a) (ltb n c) refl refl (fewer a c h ns)
   where
     go : (s t : Bool) → ltb n a ≡ s → ltb n c ≡ t → count (λ (n : ℕ). ltb n a) ns ≤ count (λ (n : ℕ). ltb n c) ns
-        → counted s (count (λ (n : ℕ). ltb n a) ns) ≤ counted t (count (λ (n : ℕ). ltb n c) ns)
+        → countBy s (count (λ (n : ℕ). ltb n a) ns) ≤ countBy t (count (λ (n : ℕ). ltb n c) ns)
     go true true p q l = omega arith
     go true false p q l = absurd (omega (arith, ltb-true n a p, ltb-false n c q))
     go false true p q l = omega arith
@@ -82,16 +82,16 @@ module _ {b : List ℕ} (ok : Accepted b) (f : Fixings) (u : ℕ) (l : u < junct
   lowest-number = List·getD-map (λ (e : BeltId). e .0) (listed ns) lowest (beltId 0) ∙ ap (λ (e : BeltId). e .0) (listed-at ns lowest lowest-place)
 
   -- the mask has a required belt that leaves the junction
-  has : (e : Belt) → List·Memᴰ e es → isRequired x e ≡ true → fixes ns hit (e .name) ≡ true
-  has e m w = ap (λ (k : ℕ). fixes ns k (e .name)) is ∙ required-hit ok f u l e m w
+  has : (e : Belt) → List·Memᴰ e es → isRequired x e ≡ true → fixes ns hit (e .index) ≡ true
+  has e m w = ap (λ (k : ℕ). fixes ns k (e .index)) is ∙ required-hit ok f u l e m w
 
   -- the belt at the lowest place: it is required, and leaves the junction
   record First (e : Belt) : Type 0 where
     leaves : List·Memᴰ e es
     needed : isRequired x e ≡ true
-    named-one : List·Memᴰ (e .name) ns
-    place : lower (e .name) ≡ lowest
-    number : getD ns lowest 0 ≡ e .name
+    named-one : List·Memᴰ (e .index) ns
+    place : lower (e .index) ≡ lowest
+    number : getD ns lowest 0 ≡ e .index
 
   first : (e : Belt) × First e
   first =
@@ -111,80 +111,80 @@ module _ {b : List ℕ} (ok : Accepted b) (f : Fixings) (u : ℕ) (l : u < junct
 
   module _ (e : Belt) (v : First e) where
     -- the mask of it alone
-    one-has : (n : ℕ) → List·Memᴰ n ns → fixes ns (2 ^ lowest) n ≡ eqb n (e .name)
+    one-has : (n : ℕ) → List·Memᴰ n ns → fixes ns (2 ^ lowest) n ≡ eqb n (e .index)
     one-has n m =
         ap (inMask (2 ^ lowest)) (place-in n ns m)
         ∙ power-set lowest (lower n)
         ∙ ap (eqb (lower n)) (sym (v .place))
-        ∙ place-equal (named-rises b) n (e .name) m (v .named-one)
+        ∙ place-equal (named-rises b) n (e .index) m (v .named-one)
 
     -- it is the first
-    least : (d : Belt) → List·Memᴰ d es → isRequired x d ≡ true → e .name ≤ d .name
-    least d m w = go (test (ltb (d .name) (e .name))) (test (ltb (lower (d .name)) lowest))
+    least : (d : Belt) → List·Memᴰ d es → isRequired x d ≡ true → e .index ≤ d .index
+    least d m w = go (test (ltb (d .index) (e .index))) (test (ltb (lower (d .index)) lowest))
       where
-        held : fixes ns hit (d .name) ≡ true
+        held : fixes ns hit (d .index) ≡ true
         held = has d m w
 
-        there : List·Memᴰ (d .name) ns
-        there = has-named ns hit (d .name) held
+        there : List·Memᴰ (d .index) ns
+        there = has-named ns hit (d .index) held
 
-        go : (ltb (d .name) (e .name) ≡ true) ⊎ (ltb (d .name) (e .name) ≡ false)
-            → (ltb (lower (d .name)) lowest ≡ true) ⊎ (ltb (lower (d .name)) lowest ≡ false) → e .name ≤ d .name
-        go (inr t) s = ltb-false (d .name) (e .name) t
+        go : (ltb (d .index) (e .index) ≡ true) ⊎ (ltb (d .index) (e .index) ≡ false)
+            → (ltb (lower (d .index)) lowest ≡ true) ⊎ (ltb (lower (d .index)) lowest ≡ false) → e .index ≤ d .index
+        go (inr t) s = ltb-false (d .index) (e .index) t
         go (inl t) (inl s) =
-            absurd (never (ap (inMask hit) (sym (place-in (d .name) ns there)) ∙ held) (lowest-none 64 hit (lower (d .name)) (ltb-true (lower (d .name)) lowest s)))
+            absurd (never (ap (inMask hit) (sym (place-in (d .index) ns there)) ∙ held) (lowest-none 64 hit (lower (d .index)) (ltb-true (lower (d .index)) lowest s)))
         go (inl t) (inr s) =
-            let under = ltb-true (d .name) (e .name) t in
-            let same : lower (d .name) ≡ lower (e .name) =
-            omega (arith, fewer (d .name) (e .name) (omega arith) ns, ltb-false (lower (d .name)) lowest s, v .place) in
-            let q = eqb-true (d .name) (e .name) (sym (place-equal (named-rises b) (d .name) (e .name) there (v .named-one)) ∙ eq-eqb (lower (d .name)) (lower (e .name)) same) in
+            let under = ltb-true (d .index) (e .index) t in
+            let same : lower (d .index) ≡ lower (e .index) =
+            omega (arith, fewer (d .index) (e .index) (omega arith) ns, ltb-false (lower (d .index)) lowest s, v .place) in
+            let q = eqb-true (d .index) (e .index) (sym (place-equal (named-rises b) (d .index) (e .index) there (v .named-one)) ∙ eq-eqb (lower (d .index)) (lower (e .index)) same) in
             absurd (omega arith)
 
     -- a second one has another place in the mask
     only : hit ≡ 2 ^ lowest → second x e es ≡ false
     only same = untrue (second x e es) (λ two.
-        let (d, m, w) = any-some (λ (d : Belt). isRequired x d && ltb (e .name) (d .name)) es two in
-        let (r, t) = both (isRequired x d) (ltb (e .name) (d .name)) w in
+        let (d, m, w) = any-some (λ (d : Belt). isRequired x d && ltb (e .index) (d .index)) es two in
+        let (r, t) = both (isRequired x d) (ltb (e .index) (d .index)) w in
         let held = has d m r in
-        let q = eqb-true (d .name) (e .name) (sym (one-has (d .name) (has-named ns hit (d .name) held)) ∙ ap (λ (k : ℕ). fixes ns k (d .name)) (sym same) ∙ held) in
-        omega (arith, ltb-true (e .name) (d .name) t))
+        let q = eqb-true (d .index) (e .index) (sym (one-has (d .index) (has-named ns hit (d .index) held)) ∙ ap (λ (k : ℕ). fixes ns k (d .index)) (sym same) ∙ held) in
+        omega (arith, ltb-true (e .index) (d .index) t))
 
     -- and another place is that of a second one
     others : (hit ≡ 2 ^ lowest → ⊥) → second x e es ≡ true
     others apart = go (test (second x e es))
       where
-        none-else : second x e es ≡ false → (n : ℕ) → fixes ns hit n ≡ true → n ≡ e .name
+        none-else : second x e es ≡ false → (n : ℕ) → fixes ns hit n ≡ true → n ≡ e .index
         none-else free n held =
             let (d, m, q, w) = hit-required ok f u l n (ap (λ (k : ℕ). fixes ns k n) (sym is) ∙ held) in
             let low = least d m w in
-            let high = ltb-false (e .name) (d .name) (untrue (ltb (e .name) (d .name)) (λ t.
-            never (and-is (isRequired x d) (ltb (e .name) (d .name)) w t) (any-none (λ (d : Belt). isRequired x d && ltb (e .name) (d .name)) es free m))) in
+            let high = ltb-false (e .index) (d .index) (untrue (ltb (e .index) (d .index)) (λ t.
+            never (and-is (isRequired x d) (ltb (e .index) (d .index)) w t) (any-none (λ (d : Belt). isRequired x d && ltb (e .index) (d .index)) es free m))) in
             omega arith
 
         go : (second x e es ≡ true) ⊎ (second x e es ≡ false) → second x e es ≡ true
         go (inl t) = t
         go (inr free) =
             absurd (apart (masks-equal (named-rises b) hit (2 ^ lowest) hit-low (pow-lt lowest-place) (λ n m.
-            alike (fixes ns hit n) (eqb n (e .name)) (λ held. eq-eqb n (e .name) (none-else free n held))
-            (λ t. ap (fixes ns hit) (eqb-true n (e .name) t) ∙ has e (v .leaves) (v .needed))
+            alike (fixes ns hit n) (eqb n (e .index)) (λ held. eq-eqb n (e .index) (none-else free n held))
+            (λ t. ap (fixes ns hit) (eqb-true n (e .index) t) ∙ has e (v .leaves) (v .needed))
             ∙ sym (one-has n m))))
 
     -- the belt as the code reads it
-    is-at : e ≡ beltAt b (e .name)
+    is-at : e ≡ beltAt b (e .index)
     is-at = belt-of ok e (leaving-in (planOf b) u e (v .leaves) .0) .1
 
     module _ (costs : List ℕ) (nearest : ℕ) where
       -- the way on by it
       by-first : (two : Bool) → second x e es ≡ two
-          → wayBy x costs nearest noWay es ≡ made (orShut two (costBy x costs nearest e)) (beltId (e .name)) true
+          → wayBy x costs nearest noWay es ≡ made (orShut two (costBy x costs nearest e)) (beltId (e .index)) true
       by-first two s =
           first-required x costs nearest e (v .needed) costLimit (beltId 0) es (leaving-rises ok u) (v .leaves) least
-          ∙ ap (λ (t : Bool). made (orShut t (costBy x costs nearest e)) (beltId (e .name)) true) s
+          ∙ ap (λ (t : Bool). made (orShut t (costBy x costs nearest e)) (beltId (e .index)) true) s
 
-      out : costBy x costs nearest e ≡ wayOver costs nearest (inMask (f .forbidden) (At lowest)) (beltAt b (e .name))
+      out : costBy x costs nearest e ≡ wayOver costs nearest (inMask (f .forbidden) (At lowest)) (beltAt b (e .index))
       out =
-          let at : placeOf ns (e .name) ≡ At lowest = place-in (e .name) ns (v .named-one) ∙ ap (λ (k : ℕ). At k) (v .place) in
-          let shut = fixed-mem ns (f .forbidden) (e .name) ∙ ap (inMask (f .forbidden)) at in
+          let at : placeOf ns (e .index) ≡ At lowest = place-in (e .index) ns (v .named-one) ∙ ap (λ (k : ℕ). At k) (v .place) in
+          let shut = fixed-mem ns (f .forbidden) (e .index) ∙ ap (inMask (f .forbidden)) at in
           λ i. wayOver costs nearest (shut i) (is-at i)
 
   pub lowest-belt : IsBelt b (getD (named (planOf b)) (trailingZeros 64 hit) 0)
@@ -199,7 +199,7 @@ module _ {b : List ℕ} (ok : Accepted b) (f : Fixings) (u : ℕ) (l : u < junct
     way-only same =
         let (e, v) = first in
         by-first e v costs nearest false (only e v same)
-        ∙ ap (λ (c : ℕ). made c (beltId (e .name)) true) (out e v costs nearest)
+        ∙ ap (λ (c : ℕ). made c (beltId (e .index)) true) (out e v costs nearest)
         ∙ ap (λ (n : ℕ). made (wayOver costs nearest (inMask (f .forbidden) (At lowest)) (beltAt b n)) (beltId n) true) (sym (v .number))
 
     pub way-shut : (hit ≡ 2 ^ trailingZeros 64 hit → ⊥) → let n = getD (named (planOf b)) (trailingZeros 64 hit) 0 in

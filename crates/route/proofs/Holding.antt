@@ -2,8 +2,8 @@
 --
 --   AgreeOn rules x y   the tests x and y agree on the belts that the rules name
 --   met-cong          such tests meet the same rules; lowest-cong: have one lowest setting
---   passes-named      the belts of an accepted plan with these names pass exactly these
---   known-low         the names of the belts of a Route of an accepted plan are below maxRecords
+--   passes-indexed    the belts of an accepted plan with these indices pass exactly these
+--   known-low         the indices of the belts of a Route of an accepted plan are below maxRecords
 --   route-placeable   they can be looked up
 --   mask-named        the mask of some belts is of named belts
 --   met-mask          in an accepted plan the mask of a Route meets the rules that the route meets
@@ -19,19 +19,19 @@ use Rattle.plan.specs.declared.read.BeltId.{BeltId}
 use Rattle.plan.specs.declared.read.Literal.{Literal}
 use Rattle.plan.specs.declared.read.Literal.the-variants.{OfBelt, OfMode}
 use Rattle.plan.specs.Bounds.{maxRecords}
-use Rattle.plan.specs.Lists.{mem, run}
-use Rattle.plan.specs.Plan.{Belt, planOf, namesOf, named}
+use Rattle.plan.specs.Lists.{mem, iota}
+use Rattle.plan.specs.Plan.{Belt, planOf, indicesOf, named}
 use Rattle.plan.specs.Reading.{Accepted, IsBelt}
 use Rattle.plan.proofs.Lists.{any-cong, all-cong, map-in}
-use Rattle.plan.proofs.Naming.{names-back, named-rises}
+use Rattle.plan.proofs.Naming.{indices-back, named-rises}
 use Rattle.plan.proofs.Reading.{belt-of, belt-low}
 use Rattle.route.specs.declared.path.Route.{Route}
-use Rattle.route.specs.Routes.{beltsByName}
+use Rattle.route.specs.Routes.{beltsByIndex}
 use Rattle.route.specs.Permission.{passes, holds, met, allMet, Terms, planTerms, termsOf, works, lowest}
 use Rattle.route.specs.Values.{idsOf, Known, routeIn, LowPlace, OfNamed, namedPlaces, Placeable, maskOf, hasBelt}
 use Rattle.route.specs.Claims.{MaskClaim}
 use Rattle.route.proofs.Lowest.{find-cong}
-use Rattle.route.proofs.ByName.{named-map, passes-names}
+use Rattle.route.proofs.ByName.{indexed-map, passes-indices}
 use Rattle.route.proofs.Fixed.{place-low, looked-up, gathered-from, gathered-low}
 use Rattle.route.proofs.Codes.{literal-named}
 
@@ -50,13 +50,13 @@ met-cong rules x y h σ = all-cong (met x σ) (met y σ) rules (λ rule m. any-c
 
 pub lowest-cong : (terms : Terms) (x y : ℕ → Bool) → AgreeOn (terms .rules) x y → lowest terms x ≡ lowest terms y
 lowest-cong terms x y h =
-    find-cong (works terms x) (works terms y) (run 0 (2 ^ terms .modes)) (λ σ i. ap (λ (t : Bool). terms .allowed σ && t) (met-cong (terms .rules) x y h σ))
+    find-cong (works terms x) (works terms y) (iota 0 (2 ^ terms .modes)) (λ σ i. ap (λ (t : Bool). terms .allowed σ && t) (met-cong (terms .rules) x y h σ))
 
 -- ---- the belts of a route
 
 module _ {b : List ℕ} (ok : Accepted b) where
-  passes-named : (es : List ℕ) → ((e : ℕ) → List·Memᴰ e es → IsBelt b e) → (e : ℕ) → passes (beltsByName (planOf b) es) e ≡ mem e es
-  passes-named es h e = passes-names (beltsByName (planOf b) es) e ∙ ap (mem e) (ap namesOf (named-map ok es h) ∙ names-back b es)
+  passes-indexed : (es : List ℕ) → ((e : ℕ) → List·Memᴰ e es → IsBelt b e) → (e : ℕ) → passes (beltsByIndex (planOf b) es) e ≡ mem e es
+  passes-indexed es h e = passes-indices (beltsByIndex (planOf b) es) e ∙ ap (mem e) (ap indicesOf (indexed-map ok es h) ∙ indices-back b es)
 
   pub known-low : (r : Route) → Known b r → (e : ℕ) → List·Memᴰ e (idsOf r) → e < maxRecords
   known-low r k e m = belt-low ok e (k .belts e m) .2
@@ -74,13 +74,13 @@ module _ {b : List ℕ} (ok : Accepted b) where
   pub mask-belt : (r : Route) → Known b r → (e : ℕ) → List·Memᴰ e (named (planOf b))
       → hasBelt b (maskOf b (idsOf r)) e ≡ passes (routeIn b r) e
   mask-belt r k e i =
-      gathered-from (named-rises b) refl (idsOf r) (known-low r k) e i ∙ sym (passes-named (idsOf r) (k .belts) e)
+      gathered-from (named-rises b) refl (idsOf r) (known-low r k) e i ∙ sym (passes-indexed (idsOf r) (k .belts) e)
 
   -- so does that of any belts of the plan
-  names-low : (r : List Belt) → ((e : Belt) → List·Memᴰ e r → List·Memᴰ e (planOf b .belts)) → (e : ℕ) → List·Memᴰ e (namesOf r) → e < maxRecords
-  names-low r h e m =
-      let (f, i, q) = map-in (λ (f : Belt). f .name) r m in
-      let low = belt-low ok (f .name) (belt-of ok f (h f i) .0) .2 in
+  indices-low : (r : List Belt) → ((e : Belt) → List·Memᴰ e r → List·Memᴰ e (planOf b .belts)) → (e : ℕ) → List·Memᴰ e (indicesOf r) → e < maxRecords
+  indices-low r h e m =
+      let (f, i, q) = map-in (λ (f : Belt). f .index) r m in
+      let low = belt-low ok (f .index) (belt-of ok f (h f i) .0) .2 in
       omega (arith, low, q)
 
   -- and so of each belt that a rule names
@@ -95,5 +95,5 @@ module _ {b : List ℕ} (ok : Accepted b) where
   lowest-mask r k = lowest-cong (planTerms (planOf b)) (hasBelt b (maskOf b (idsOf r))) (passes (routeIn b r)) (mask-agrees r k)
 
 pub mask-claim : MaskClaim
-mask-claim b ok trip r h = lowest-cong (termsOf (planOf b) trip) (hasBelt b (maskOf b (namesOf r))) (passes r) (λ rule m e w i.
-    gathered-from (named-rises b) refl (namesOf r) (names-low ok r h) (e .0) (literal-named ok m e w i) ∙ sym (passes-names r (e .0)))
+mask-claim b ok trip r h = lowest-cong (termsOf (planOf b) trip) (hasBelt b (maskOf b (indicesOf r))) (passes r) (λ rule m e w i.
+    gathered-from (named-rises b) refl (indicesOf r) (indices-low ok r h) (e .0) (literal-named ok m e w i) ∙ sym (passes-indices r (e .0)))

@@ -3,7 +3,7 @@
 --   cost-at, first-at        the cost and the first belt that an array of words has for a junction
 --   cost-of, first-of        unpacking the word of a cost and a belt gives them back
 --   costs-set, firsts-set    the costs and the first belts after such a word is stored
---   kept-start               an array of zeros
+--   ways-start               an array of zeros
 --   spared-set               only the places from s on and before t are stored to
 --   spared-next, spared-cleared
 --                            these places cleared one by one
@@ -49,9 +49,9 @@ pub firsts-set : (ws : List ℕ) (u c e : ℕ) → e < maxRecords → firstsIn (
 firsts-set ws u c e l = map-set (λ (w : ℕ). beltId (w % maxRecords)) ws u (c * maxRecords + e) ∙ ap (λ (k : ℕ). set (firstsIn ws) u (beltId k)) (first-of c e l)
 
 -- an array of zeros has no costs, no belts and nothing stored
-pub kept-start : (s t : ℕ) (ws : List ℕ) → ws ≡ replicate junctionPlaces 0
+pub ways-start : (s t : ℕ) (ws : List ℕ) → ws ≡ replicate junctionPlaces 0
     → (costsIn ws ≡ replicate junctionPlaces 0) × (firstsIn ws ≡ replicate junctionPlaces (beltId 0)) × Spared s t ws
-kept-start s t ws q = start junctionPlaces refl q
+ways-start s t ws q = start junctionPlaces refl q
   where
     zeros : (n j : ℕ) → _≡_ {A = ℕ} (getD (replicate n 0) j 0) 0
     zeros zero j = refl

@@ -5,11 +5,11 @@
 --   Alone x es e      belt e stands alone: no other belt of es is required. A route has one belt that leaves a junction on its way, so that only
 --                     a belt that stands alone can be taken
 --   Wins x costs nearest e f
---                     the way on by belt e costs less than that by f, or as much and e has no higher name
+--                     the way on by belt e costs less than that by f, or as much and e has no higher index
 --   Looked x costs nearest es way
 --                     of the belts of es that stand alone, way has the first of the cheapest (chosen), or there is no way on by any (blocked)
 --   stays             past a required belt the fold keeps its way, or drops it where a second one is required
---   looked            this holds of the fold over the belts es, of rising names
+--   looked            this holds of the fold over the belts es, of rising indices
 --   looked-required   and its result is marked as required exactly if one of them is required
 --
 -- There are two cases. Where no belt is required, each stands alone, and the first of the cheapest is kept. Where one is, it alone can
@@ -25,7 +25,7 @@ use lib.Dec.{ltb}
 use borrow.Author.Tests.{eq-eqb, ne-eqb, ltb-true, ltb-false}
 use Rattle.plan.specs.declared.read.BeltId.{BeltId}
 use Rattle.plan.specs.Lists.{any}
-use Rattle.plan.specs.Plan.{Belt, namesOf, beltId}
+use Rattle.plan.specs.Plan.{Belt, indicesOf, beltId}
 use Rattle.plan.proofs.Lists.{test, never, neither, or-is, each, any-none, any-some, in-map}
 use Rattle.plan.proofs.Rising.{Rises, more}
 use Rattle.route.specs.declared.relax.Way.{Way}
@@ -56,13 +56,13 @@ Alone x es e = (g : Belt) → List·Memᴰ g es → isRequired x g ≡ true → 
 
 abbrev pub Wins : Subproblem → List ℕ → ℕ → Belt → Belt → Type 0
 Wins x costs nearest e f =
-    (costBy x costs nearest e ≤ costBy x costs nearest f) × (costBy x costs nearest f ≡ costBy x costs nearest e → e .name ≤ f .name)
+    (costBy x costs nearest e ≤ costBy x costs nearest f) × (costBy x costs nearest f ≡ costBy x costs nearest e → e .index ≤ f .index)
 
 -- ---- lists of belts
 
--- where names rise, the first belt has the lowest
-lowest-first : (e : Belt) (es : List Belt) → ((n : ℕ) → List·Memᴰ n (namesOf es) → e .name < n) → (f : Belt) → List·Memᴰ f es → e .name < f .name
-lowest-first e es h f m = h (f .name) (in-map (λ (g : Belt). g .name) m)
+-- where indices rise, the first belt has the lowest
+lowest-first : (e : Belt) (es : List Belt) → ((n : ℕ) → List·Memᴰ n (indicesOf es) → e .index < n) → (f : Belt) → List·Memᴰ f es → e .index < f .index
+lowest-first e es h f m = h (f .index) (in-map (λ (g : Belt). g .index) m)
 
 -- ---- one belt more
 
@@ -86,7 +86,7 @@ preferred-required k g false e c false = cheaper-required (ltb c k) c e k g
 module _ (x : Subproblem) (costs : List ℕ) (nearest : ℕ) where
   pub data Looked (es : List Belt) (way : Way) : Type 0 where
     blocked : way .cost ≡ costLimit → ((f : Belt) → List·Memᴰ f es → Alone x es f → costLimit ≤ costBy x costs nearest f) → Looked es way
-    chosen : (e : Belt) → List·Memᴰ e es → Alone x es e → way .cost ≡ costBy x costs nearest e → way .belt ≡ beltId (e .name)
+    chosen : (e : Belt) → List·Memᴰ e es → Alone x es e → way .cost ≡ costBy x costs nearest e → way .belt ≡ beltId (e .index)
         → ((f : Belt) → List·Memᴰ f es → Alone x es f → Wins x costs nearest e f) → Looked es way
 
   abbrev on : Belt → ℕ
@@ -94,11 +94,11 @@ module _ (x : Subproblem) (costs : List ℕ) (nearest : ℕ) where
 
   -- the way by belt e
   abbrev by : Belt → Bool → Way
-  by e w = made (on e) (beltId (e .name)) w
+  by e w = made (on e) (beltId (e .index)) w
 
   -- the way once e is looked at, and once all of es are
   abbrev then : Way → Belt → Bool → Way
-  then way e w = preferred way (beltId (e .name)) (on e) w
+  then way e w = preferred way (beltId (e .index)) (on e) w
 
   abbrev after : Way → List Belt → Way
   after way es = wayBy x costs nearest way es
@@ -108,7 +108,7 @@ module _ (x : Subproblem) (costs : List ℕ) (nearest : ℕ) where
   required-from way [] = sym (or-false (way .required))
   required-from way (e ∷ es) =
       required-from (then way e (isRequired x e)) es
-      ∙ ap (λ (w : Bool). w || any (isRequired x) es) (preferred-required (way .cost) (way .belt) (way .required) (beltId (e .name)) (on e) (isRequired x e))
+      ∙ ap (λ (w : Bool). w || any (isRequired x) es) (preferred-required (way .cost) (way .belt) (way .required) (beltId (e .index)) (on e) (isRequired x e))
       ∙ or-assoc (way .required) (isRequired x e) (any (isRequired x) es)
 
   pub looked-required : (es : List Belt) → wayBy x costs nearest noWay es .required ≡ any (isRequired x) es
@@ -126,7 +126,7 @@ module _ (x : Subproblem) (costs : List ℕ) (nearest : ℕ) where
   Best k g es way =
       ((way ≡ made k g false) × ((f : Belt) → List·Memᴰ f es → k ≤ on f)) ⊎ ((e : Belt) × (way ≡ by e false) × (on e < k) × First es e)
 
-  best : (k : ℕ) (g : BeltId) (es : List Belt) → Rises (namesOf es) → any (isRequired x) es ≡ false → Best k g es (after (made k g false) es)
+  best : (k : ℕ) (g : BeltId) (es : List Belt) → Rises (indicesOf es) → any (isRequired x) es ≡ false → Best k g es (after (made k g false) es)
   best k g [] r free = inl (refl, λ f m. absurd (List·Memᴰ·not-nil m))
   best k g (e ∷ es) (more h r) free =
       let (here, rest) = neither (isRequired x e) (any (isRequired x) es) free in
@@ -145,7 +145,7 @@ module _ (x : Subproblem) (costs : List ℕ) (nearest : ℕ) where
         wins = each (Wins x costs nearest d) (omega arith, λ q. absurd (omega arith)) (v .wins);
       }
 
-      taken : on e < k → (way : Way) → Best (on e) (beltId (e .name)) es way → Best k g (e ∷ es) way
+      taken : on e < k → (way : Way) → Best (on e) (beltId (e .index)) es way → Best k g (e ∷ es) way
       taken l way (inl (s, least)) = inr (e, s, l, first-here least)
       taken l way (inr (d, s, u, v)) = inr (d, s, omega arith, first-later d u v)
 
@@ -154,11 +154,11 @@ module _ (x : Subproblem) (costs : List ℕ) (nearest : ℕ) where
       passed l way (inr (d, s, u, v)) = inr (d, s, u, first-later d (omega arith) v)
 
       go : (less : Bool) → ltb (on e) k ≡ less → ((j : ℕ) (i : BeltId) → Best j i es (after (made j i false) es))
-          → Best k g (e ∷ es) (after (cheaper less (on e) (beltId (e .name)) k g) es)
-      go true l below = taken (ltb-true (on e) k l) (after (by e false) es) (below (on e) (beltId (e .name)))
+          → Best k g (e ∷ es) (after (cheaper less (on e) (beltId (e .index)) k g) es)
+      go true l below = taken (ltb-true (on e) k l) (after (by e false) es) (below (on e) (beltId (e .index)))
       go false l below = passed (ltb-false (on e) k l) (after (made k g false) es) (below k g)
 
-  looked-free : (es : List Belt) → Rises (namesOf es) → any (isRequired x) es ≡ false → Looked es (after noWay es)
+  looked-free : (es : List Belt) → Rises (indicesOf es) → any (isRequired x) es ≡ false → Looked es (after noWay es)
   looked-free es r free = go (best costLimit (beltId 0) es r free)
     where
       go : Best costLimit (beltId 0) es (after noWay es) → Looked es (after noWay es)
@@ -202,12 +202,12 @@ module _ (x : Subproblem) (costs : List ℕ) (nearest : ℕ) where
           chosen d (List·Memᴰ·tail i) (each (λ (f : Belt). isRequired x f ≡ true → f ≡ d) (λ q. absurd (never q h)) a) c g
           (λ f m v. let (j, w) = inner f m v in least f j w)
 
-  looked-fixed : (k : ℕ) (g : BeltId) (es : List Belt) → Rises (namesOf es) → any (isRequired x) es ≡ true → Looked es (after (made k g false) es)
+  looked-fixed : (k : ℕ) (g : BeltId) (es : List Belt) → Rises (indicesOf es) → any (isRequired x) es ≡ true → Looked es (after (made k g false) es)
   looked-fixed k g [] r some = absurd (true≢false (sym some))
   looked-fixed k g (e ∷ es) (more h r) some = go (isRequired x e) refl (λ j i. looked-fixed j i es r)
     where
       here : isRequired x e ≡ true → (second : Bool) → any (isRequired x) es ≡ second → (way : Way)
-          → way ≡ made (orShut second (on e)) (beltId (e .name)) true → Looked (e ∷ es) way
+          → way ≡ made (orShut second (on e)) (beltId (e .index)) true → Looked (e ∷ es) way
       here w false free way s =
           chosen e (List·Memᴰ·head refl)
           (each (λ (f : Belt). isRequired x f ≡ true → f ≡ e) (λ q. refl) (λ f m q. absurd (never q (any-none (isRequired x) es free m))))
@@ -216,22 +216,22 @@ module _ (x : Subproblem) (costs : List ℕ) (nearest : ℕ) where
       here w true two way s =
           blocked (ap (λ (v : Way). v .cost) s) (λ f m a.
           let (d, i, q) = any-some (isRequired x) es two in
-          let n : e .name ≡ d .name = ap (λ (v : Belt). v .name) (a e (List·Memᴰ·head refl) w ∙ sym (a d (List·Memᴰ·tail i) q)) in
+          let n : e .index ≡ d .index = ap (λ (v : Belt). v .index) (a e (List·Memᴰ·head refl) w ∙ sym (a d (List·Memᴰ·tail i) q)) in
           absurd (omega (arith, lowest-first e es h d i)))
 
       go : (w : Bool) → isRequired x e ≡ w → ((j : ℕ) (i : BeltId) → any (isRequired x) es ≡ true → Looked es (after (made j i false) es))
           → Looked (e ∷ es) (after (then (made k g false) e w) es)
-      go true w below = here w (any (isRequired x) es) refl (after (by e true) es) (stays (on e) (beltId (e .name)) es)
+      go true w below = here w (any (isRequired x) es) refl (after (by e true) es) (stays (on e) (beltId (e .index)) es)
       go false w below = later (ltb (on e) k)
         where
           rest : any (isRequired x) es ≡ true
           rest = ap (λ (v : Bool). v || any (isRequired x) es) (sym w) ∙ some
 
-          later : (less : Bool) → Looked (e ∷ es) (after (cheaper less (on e) (beltId (e .name)) k g) es)
-          later true = widened e es w rest (after (by e false) es) (below (on e) (beltId (e .name)) rest)
+          later : (less : Bool) → Looked (e ∷ es) (after (cheaper less (on e) (beltId (e .index)) k g) es)
+          later true = widened e es w rest (after (by e false) es) (below (on e) (beltId (e .index)) rest)
           later false = widened e es w rest (after (made k g false) es) (below k g rest)
 
-  pub looked : (es : List Belt) → Rises (namesOf es) → Looked es (wayBy x costs nearest noWay es)
+  pub looked : (es : List Belt) → Rises (indicesOf es) → Looked es (wayBy x costs nearest noWay es)
   looked es r = go (test (any (isRequired x) es))
     where
       go : (any (isRequired x) es ≡ true) ⊎ (any (isRequired x) es ≡ false) → Looked es (after noWay es)

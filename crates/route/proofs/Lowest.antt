@@ -1,8 +1,8 @@
 -- The first number that passes a test, and the lowest setting.
 --
 --   First f i n o     o is the first of the n numbers from i on that pass, or none, and none of them pass
---   find-run          what `find` over a run answers is this; find-is, find-none: and whatever is this is what it answers
---   find-run-split    the first of n + m numbers is the first of the first n of them, or else that of the other m (otherwise)
+--   find-iota         what `find` over consecutive numbers answers is this; find-is, find-none: and whatever is this is what it answers
+--   find-iota-split   the first of n + m numbers is the first of the first n of them, or else that of the other m (otherwise)
 --   find-cong         two tests that agree on the elements of a list find the same in it
 --   halves, weight, all-modes
 --                     2^(m-1) is half of 2^m, and fits into 16 bits; 2^m is at most 2^maxModes
@@ -24,8 +24,8 @@ use lib.Pow.{pow-mono}
 use lib.Dec.{leb}
 use borrow.Author.Tests.{leb-true, leb-false}
 use Rattle.plan.specs.Bounds.{maxModes}
-use Rattle.plan.specs.Lists.{run}
-use Rattle.plan.proofs.Lists.{test, never, untrue, run-split}
+use Rattle.plan.specs.Lists.{iota}
+use Rattle.plan.proofs.Lists.{test, never, untrue, iota-split}
 use Rattle.route.specs.Permission.{passes, works, Permitted, orElse, otherwise, find}
 use Rattle.route.specs.Claims.{LowestClaim}
 use Rattle.route.proofs.Bits.{shifted}
@@ -64,16 +64,16 @@ module _ (f : ℕ → Bool) where
   first-next i n h none g = λ τ l u. from-next i h τ l (λ k. g τ k (omega arith))
   first-next i n h (some σ) g = (omega (arith, g .0), omega (arith, g .1), g .2, λ τ l u. from-next i h τ l (λ k. g .3 τ k u))
 
-  find-run : (i n : ℕ) → First i n (find f (run i n))
-  find-run i zero = λ τ l u. absurd (omega arith)
-  find-run i (suc n) = go (test (f i)) (find-run (suc i) n)
+  find-iota : (i n : ℕ) → First i n (find f (iota i n))
+  find-iota i zero = λ τ l u. absurd (omega arith)
+  find-iota i (suc n) = go (test (f i)) (find-iota (suc i) n)
     where
-      go : (f i ≡ true) ⊎ (f i ≡ false) → First (suc i) n (find f (run (suc i) n)) → First i (suc n) (find f (run i (suc n)))
+      go : (f i ≡ true) ⊎ (f i ≡ false) → First (suc i) n (find f (iota (suc i) n)) → First i (suc n) (find f (iota i (suc n)))
       go (inl t) g =
           let here : First i (suc n) (some i) = (omega arith, omega arith, t, λ τ l u. absurd (omega arith)) in
-          subst (λ (b : Bool). First i (suc n) (orElse b i (find f (run (suc i) n)))) (sym t) here
+          subst (λ (b : Bool). First i (suc n) (orElse b i (find f (iota (suc i) n)))) (sym t) here
       go (inr t) g =
-          subst (λ (b : Bool). First i (suc n) (orElse b i (find f (run (suc i) n)))) (sym t) (first-next i n t (find f (run (suc i) n)) g)
+          subst (λ (b : Bool). First i (suc n) (orElse b i (find f (iota (suc i) n)))) (sym t) (first-next i n t (find f (iota (suc i) n)) g)
 
   -- there is only one first
   first-one : (i n σ : ℕ) → First i n (some σ) → (o : Option ℕ) → First i n o → o ≡ some σ
@@ -85,11 +85,11 @@ module _ (f : ℕ → Bool) where
       go (inr k) l = absurd (never (g .2) (h .3 τ (g .0) (leb-false σ τ k)))
       go (inl k) (inr l) = absurd (never (h .2) (g .3 σ (h .0) (leb-false τ σ l)))
 
-  find-is : (i n σ : ℕ) → First i n (some σ) → find f (run i n) ≡ some σ
-  find-is i n σ h = first-one i n σ h (find f (run i n)) (find-run i n)
+  find-is : (i n σ : ℕ) → First i n (some σ) → find f (iota i n) ≡ some σ
+  find-is i n σ h = first-one i n σ h (find f (iota i n)) (find-iota i n)
 
-  find-none : (i n : ℕ) → First i n none → find f (run i n) ≡ none
-  find-none i n h = go (find f (run i n)) (find-run i n)
+  find-none : (i n : ℕ) → First i n none → find f (iota i n) ≡ none
+  find-none i n h = go (find f (iota i n)) (find-iota i n)
     where
       go : (o : Option ℕ) → First i n o → o ≡ none
       go none g = refl
@@ -106,17 +106,17 @@ module _ (f : ℕ → Bool) where
       go true h = refl
       go false h = h
 
-  find-run-split : (s n m : ℕ) → find f (run s (n + m)) ≡ otherwise (find f (run s n)) (find f (run (s + n) m))
-  find-run-split s n m = ap (find f) (run-split s n m) ∙ find-append (run s n) (run (s + n) m)
+  find-iota-split : (s n m : ℕ) → find f (iota s (n + m)) ≡ otherwise (find f (iota s n)) (find f (iota (s + n) m))
+  find-iota-split s n m = ap (find f) (iota-split s n m) ∙ find-append (iota s n) (iota (s + n) m)
 
   -- ---- the settings of the modes up to m, the higher ones being as s has them
 
-  pub settle-none : (m s : ℕ) → m ≡ 0 → (b : Bool) → f s ≡ b → find f (run s (2 ^ m)) ≡ orElse b s none
-  settle-none m s e b h = ap (λ (n : ℕ). find f (run s (2 ^ n))) e ∙ ap (λ (t : Bool). orElse t s none) h
+  pub settle-none : (m s : ℕ) → m ≡ 0 → (b : Bool) → f s ≡ b → find f (iota s (2 ^ m)) ≡ orElse b s none
+  settle-none m s e b h = ap (λ (n : ℕ). find f (iota s (2 ^ n))) e ∙ ap (λ (t : Bool). orElse t s none) h
 
   pub settle-both : (m s : ℕ) → 1 ≤ m
-      → find f (run s (2 ^ m)) ≡ otherwise (find f (run s (2 ^ (m - 1)))) (find f (run (s + 2 ^ (m - 1)) (2 ^ (m - 1))))
-  settle-both m s h = ap (λ (n : ℕ). find f (run s n)) (sym (halves m h)) ∙ find-run-split s (2 ^ (m - 1)) (2 ^ (m - 1))
+      → find f (iota s (2 ^ m)) ≡ otherwise (find f (iota s (2 ^ (m - 1)))) (find f (iota (s + 2 ^ (m - 1)) (2 ^ (m - 1))))
+  settle-both m s h = ap (λ (n : ℕ). find f (iota s n)) (sym (halves m h)) ∙ find-iota-split s (2 ^ (m - 1)) (2 ^ (m - 1))
 
 -- ---- settings
 
@@ -129,17 +129,17 @@ lowest-claim terms r = ((λ σ. (to σ, from σ)), (none-to, none-from))
     work : ℕ → Bool
     work σ = works terms (passes r) σ
 
-    is : First work 0 top (find work (run 0 top))
-    is = find-run work 0 top
+    is : First work 0 top (find work (iota 0 top))
+    is = find-iota work 0 top
 
-    to : (σ : ℕ) → find work (run 0 top) ≡ some σ → (σ < top) × (work σ ≡ true) × ((τ : ℕ) → τ < σ → work τ ≡ false)
+    to : (σ : ℕ) → find work (iota 0 top) ≡ some σ → (σ < top) × (work σ ≡ true) × ((τ : ℕ) → τ < σ → work τ ≡ false)
     to σ e = let h = subst (First work 0 top) e is in (omega (arith, h .1), h .2, λ τ l. h .3 τ (omega arith) l)
 
-    from : (σ : ℕ) → (σ < top) × (work σ ≡ true) × ((τ : ℕ) → τ < σ → work τ ≡ false) → find work (run 0 top) ≡ some σ
+    from : (σ : ℕ) → (σ < top) × (work σ ≡ true) × ((τ : ℕ) → τ < σ → work τ ≡ false) → find work (iota 0 top) ≡ some σ
     from σ h = find-is work 0 top σ (omega arith, omega (arith, h .0), h .1, λ τ l u. h .2 τ u)
 
-    none-to : find work (run 0 top) ≡ none → Permitted terms r → ⊥
+    none-to : find work (iota 0 top) ≡ none → Permitted terms r → ⊥
     none-to e w = never (w .2) (subst (First work 0 top) e is (w .0) (omega arith) (omega (arith, w .1)))
 
-    none-from : (Permitted terms r → ⊥) → find work (run 0 top) ≡ none
+    none-from : (Permitted terms r → ⊥) → find work (iota 0 top) ≡ none
     none-from h = find-none work 0 top (λ τ l u. untrue (work τ) (λ t. h (τ, omega (arith, u), t)))

@@ -15,7 +15,7 @@
 --   unowed-relaxed     and else there is none
 --
 -- What remains from u on admits a route from u exactly when the route has every belt that is owed and no forbidden one (Admitted);
--- by this form, in belts instead of their names, all the rest goes. Assumes nothing.
+-- by this form, in belts instead of their indices, all the rest goes. Assumes nothing.
 use mathlib.Core.Path.{_≡_, refl, sym, _∙_, ap}
 use mathlib.Core.Logic.{_↔_, _⊎_, inl, inr}
 use mathlib.Core.Bool.{true, false, _&&_}
@@ -28,7 +28,7 @@ use lib.ListN.{length}
 use lib.Dec.{eqb, leb, ltb}
 use borrow.Author.Tests.{ne-eqb, ltb-true, ltb-false, lt-ltb, leb-true, le-leb}
 use Rattle.plan.specs.Lists.{keep, mem}
-use Rattle.plan.specs.Plan.{Belt, planOf, namesOf}
+use Rattle.plan.specs.Plan.{Belt, planOf, indicesOf}
 use Rattle.plan.specs.Reading.{Accepted}
 use Rattle.plan.proofs.Lists.{test, both, and-is, neither, or-is, never, untrue, each, in-keep, keep-in, in-map, map-in, in-mem, mem-in}
 use Rattle.plan.proofs.Reading.{belt-ends}
@@ -55,7 +55,7 @@ pub owed-between : {b : List ℕ} {x : Subproblem} {t u : ℕ} {g : Belt} → Ow
 owed-between l v w h k = record { belt = l .belt; wanted = l .wanted; from = h; before-t = k }
 
 abbrev pub AllOwed : List ℕ → Subproblem → ℕ → ℕ → Type 0
-AllOwed b x t s = (n : ℕ) → List·Memᴰ n (x .required) → (g : Belt) × Owed b x t s g × (n ≡ g .name)
+AllOwed b x t s = (n : ℕ) → List·Memᴰ n (x .required) → (g : Belt) × Owed b x t s g × (n ≡ g .index)
 
 -- route r has the belts that are owed from u on, and no forbidden one
 record Admitted (b : List ℕ) (x : Subproblem) (t u : ℕ) (r : List Belt) : Type 0 where
@@ -63,16 +63,16 @@ record Admitted (b : List ℕ) (x : Subproblem) (t u : ℕ) (r : List Belt) : Ty
   allowed : (e : ℕ) → List·Memᴰ e (x .forbidden) → passes r e ≡ false
 
 module _ {b : List ℕ} (x : Subproblem) (t u : ℕ) where
-  in-remaining : (g : Belt) → Owed b x t u g → List·Memᴰ (g .name) (remaining (planOf b) x t u .required)
+  in-remaining : (g : Belt) → Owed b x t u g → List·Memᴰ (g .index) (remaining (planOf b) x t u .required)
   in-remaining g l =
-      in-map (λ (e : Belt). e .name)
+      in-map (λ (e : Belt). e .index)
       (in-keep (isOwed x t u) (planOf b .belts) (l .belt)
       (and-is (isRequired x g) (leb u (g .leaves) && ltb (g .leaves) t) (l .wanted)
       (and-is (leb u (g .leaves)) (ltb (g .leaves) t) (le-leb u (g .leaves) (l .from)) (lt-ltb (g .leaves) t (l .before-t)))))
 
-  remaining-in : (n : ℕ) → List·Memᴰ n (remaining (planOf b) x t u .required) → (g : Belt) × Owed b x t u g × (n ≡ g .name)
+  remaining-in : (n : ℕ) → List·Memᴰ n (remaining (planOf b) x t u .required) → (g : Belt) × Owed b x t u g × (n ≡ g .index)
   remaining-in n m =
-      let (g, k, e) = map-in (λ (e : Belt). e .name) (keep (isOwed x t u) (planOf b .belts)) m in
+      let (g, k, e) = map-in (λ (e : Belt). e .index) (keep (isOwed x t u) (planOf b .belts)) m in
       let (i, h) = keep-in (isOwed x t u) (planOf b .belts) k in
       let (w, o) = both (isRequired x g) (leb u (g .leaves) && ltb (g .leaves) t) h in
       let (l, v) = both (leb u (g .leaves)) (ltb (g .leaves) t) o in
@@ -82,7 +82,7 @@ module _ {b : List ℕ} (ok : Accepted b) (x : Subproblem) (t u : ℕ) (r : List
   admits-owed : IsRoute (planOf b) u t r → admits (remaining (planOf b) x t u) r ≡ true → Admitted b x t u r
   admits-owed h a =
       let (k, f) = admits-is (remaining (planOf b) x t u) r a in
-      record { has = λ g l. on-route ok u t r h g (l .belt) (k (g .name) (in-remaining x t u g l)); allowed = f }
+      record { has = λ g l. on-route ok u t r h g (l .belt) (k (g .index) (in-remaining x t u g l)); allowed = f }
 
   owed-admits : Admitted b x t u r → admits (remaining (planOf b) x t u) r ≡ true
   owed-admits a = is-admits (remaining (planOf b) x t u) r has (a .allowed)
@@ -119,14 +119,14 @@ module _ {b : List ℕ} (ok : Accepted b) (x : Subproblem) (t u : ℕ) (e : Belt
 
   admitted-goes : Admitted b x t u (e ∷ r) → Goes b x u e
   admitted-goes a = record {
-    allowed = untrue (isForbidden x e) (λ k. never (in-passes (e ∷ r) e (List·Memᴰ·head refl)) (a .allowed (e .name) (mem-in (x .forbidden) k)));
+    allowed = untrue (isForbidden x e) (λ k. never (in-passes (e ∷ r) e (List·Memᴰ·head refl)) (a .allowed (e .index) (mem-in (x .forbidden) k)));
     only = λ g l. low-first g (a .has g (owed-between l u t (l .from) (omega (arith, top, l .before-t)))) (l .before-t);
   }
 
   admitted-rest : Admitted b x t u (e ∷ r) → Admitted b x t (e .leads) r
   admitted-rest a = record {
     has = λ g l. high-rest g (a .has g (owed-between l u t (omega (arith, here, up, l .from)) (l .before-t))) (l .from);
-    allowed = λ n m. neither (eqb (e .name) n) (passes r n) (a .allowed n m) .1;
+    allowed = λ n m. neither (eqb (e .index) n) (passes r n) (a .allowed n m) .1;
   }
 
   goes-admitted : Goes b x u e → Admitted b x t (e .leads) r → Admitted b x t u (e ∷ r)
@@ -138,7 +138,7 @@ module _ {b : List ℕ} (ok : Accepted b) (x : Subproblem) (t u : ℕ) (e : Belt
 
       allowed : (n : ℕ) → List·Memᴰ n (x .forbidden) → passes (e ∷ r) n ≡ false
       allowed n m =
-          or-is (eqb (e .name) n) (passes r n) (ne-eqb (e .name) n (λ q. never (in-mem (x .forbidden) (Memᴰ·cast q m)) (k .allowed))) (a .allowed n m)
+          or-is (eqb (e .index) n) (passes r n) (ne-eqb (e .index) n (λ q. never (in-mem (x .forbidden) (Memᴰ·cast q m)) (k .allowed))) (a .allowed n m)
 
 -- ---- what remains and the whole
 
@@ -148,20 +148,20 @@ module _ {b : List ℕ} (ok : Accepted b) (x : Subproblem) (t s : ℕ) where
   whole-remaining q a =
       let (k, f) = admits-is x q a in
       is-admits (remaining (planOf b) x t s) q
-      (λ n m. let (g, l, e) = remaining-in x t s n m in ap (passes q) e ∙ k (g .name) (mem-in (x .required) (l .wanted))) f
+      (λ n m. let (g, l, e) = remaining-in x t s n m in ap (passes q) e ∙ k (g .index) (mem-in (x .required) (l .wanted))) f
 
   -- a required belt that is on a route from s to t is owed from s on
   on-owed : (q : List Belt) → IsRoute (planOf b) s t q → (g : Belt) → List·Memᴰ g (planOf b .belts) → isRequired x g ≡ true
-      → passes q (g .name) ≡ true → Owed b x t s g
+      → passes q (g .index) ≡ true → Owed b x t s g
   on-owed q h g m w k =
       let cut = cut-claim b ok s t q h g m .0 k in
       record { belt = m; wanted = w; from = cut .from; before-t = cut .before-t }
 
   -- so where x admits some route, all of them are
-  admitted-owed : ((e : ℕ) → List·Memᴰ e (x .required) → mem e (namesOf (planOf b .belts)) ≡ true)
+  admitted-owed : ((e : ℕ) → List·Memᴰ e (x .required) → mem e (indicesOf (planOf b .belts)) ≡ true)
       → (q : List Belt) → IsRoute (planOf b) s t q → admits x q ≡ true → AllOwed b x t s
   admitted-owed named q h a n m =
-      let (g, i, e) = map-in (λ (f : Belt). f .name) (planOf b .belts) (mem-in (namesOf (planOf b .belts)) (named n m)) in
+      let (g, i, e) = map-in (λ (f : Belt). f .index) (planOf b .belts) (mem-in (indicesOf (planOf b .belts)) (named n m)) in
       (g, on-owed q h g i (in-mem (x .required) (Memᴰ·cast (sym e) m)) (ap (passes q) (sym e) ∙ admits-is x q a .0 n m), e)
 
 -- ---- the way on
@@ -246,9 +246,9 @@ module _ {b : List ℕ} (ok : Accepted b) (x : Subproblem) (t : ℕ) where
           let (h, a, least) = relaxed-some ok s t (remaining (planOf b) x t s) r e in
           let (has, allowed) = admits-is (remaining (planOf b) x t s) r a in
           let admitted : admits x r ≡ true =
-          is-admits x r (λ n m. let (g, l, q) = owed n m in ap (passes r) q ∙ has (g .name) (in-remaining x t s g l)) allowed in
+          is-admits x r (λ n m. let (g, l, q) = owed n m in ap (passes r) q ∙ has (g .index) (in-remaining x t s g l)) allowed in
           sym (is-relaxed ok s t x r h admitted (λ q l c. least q l (whole-remaining ok x t s q c)))
 
-  pub unowed-relaxed : (s : ℕ) → ((e : ℕ) → List·Memᴰ e (x .required) → mem e (namesOf (planOf b .belts)) ≡ true)
+  pub unowed-relaxed : (s : ℕ) → ((e : ℕ) → List·Memᴰ e (x .required) → mem e (indicesOf (planOf b .belts)) ≡ true)
       → (AllOwed b x t s → ⊥) → relaxed (planOf b) s t x ≡ none
   unowed-relaxed s named h = no-relaxed ok s t x (λ q r a. h (admitted-owed ok x t s named q r a))

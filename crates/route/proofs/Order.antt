@@ -7,12 +7,12 @@
 --   before-trans       what comes before one that comes before a third comes before the third
 --   not-before-trans   the same of "does not come before"
 --   before-cons        which of two lists comes first does not change by a belt in front of both
---   no-earlier         f ∷ s does not come before e ∷ r if it costs more, or as much and f has the higher name, or f the same and r is s
+--   no-earlier         f ∷ s does not come before e ∷ r if it costs more, or as much and f has the higher index, or f the same and r is s
 --   before-total       two routes from s to t of which neither comes before the other are equal
 --   upward-claim       there is no route from s to t where s > t, and only the empty one where s = t (UpwardClaim)
 --   no-longer          no route from s to t goes on where another ends
 --   order-claim        all this as it is claimed (OrderClaim)
---   lower-known        which of two known Routes is lower at the first difference is told by the names that they hold
+--   lower-known        which of two known Routes is lower at the first difference is told by the indices that they hold
 --
 -- Assumes nothing.
 use mathlib.Core.Path.{_≡_, refl, sym, _∙_, ap, subst}
@@ -25,16 +25,16 @@ use native.Mathlib.Nat.{eq-or-lt-of-le}
 use lib.ListN.{length}
 use lib.Dec.{eqb, ltb}
 use borrow.Author.Tests.{eqb-true, eqb-false, eq-eqb, ne-eqb, ltb-true, ltb-false, lt-ltb, le-ltb}
-use Rattle.plan.specs.Plan.{Belt, planOf, namesOf}
+use Rattle.plan.specs.Plan.{Belt, planOf, indicesOf}
 use Rattle.plan.specs.Reading.{Accepted}
 use Rattle.plan.proofs.Lists.{test, both, either, neither}
-use Rattle.plan.proofs.Reading.{belt-name}
+use Rattle.plan.proofs.Reading.{belt-index}
 use Rattle.route.specs.declared.path.Route.{Route}
 use Rattle.route.specs.Routes.{IsRoute, cost, first, lower, before}
 use Rattle.route.specs.Values.{idsOf, Known, routeIn}
 use Rattle.route.specs.Inner.{lowerIds}
 use Rattle.route.specs.Claims.{OrderClaim, UpwardClaim}
-use Rattle.route.proofs.ByName.{route-length, known-names}
+use Rattle.route.proofs.ByName.{route-length, known-indices}
 
 -- ---- one number, and the rest
 
@@ -125,13 +125,13 @@ module _ (l m n : ℕ) (x y z : Bool) where
 
 lower-irrefl : (a : List Belt) → lower a a ≡ false
 lower-irrefl [] = refl
-lower-irrefl (e ∷ a) = first-eq (e .name) (e .name) (lower a a) refl ∙ lower-irrefl a
+lower-irrefl (e ∷ a) = first-eq (e .index) (e .index) (lower a a) refl ∙ lower-irrefl a
 
 lower-asym : (a b : List Belt) → lower a b ≡ true → lower b a ≡ false
 lower-asym [] [] h = refl
 lower-asym [] (f ∷ b) h = refl
 lower-asym (e ∷ a) [] h = absurd (true≢false (sym h))
-lower-asym (e ∷ a) (f ∷ b) h = first-asym (e .name) (f .name) (lower a b) (lower b a) (lower-asym a b) h
+lower-asym (e ∷ a) (f ∷ b) h = first-asym (e .index) (f .index) (lower a b) (lower b a) (lower-asym a b) h
 
 lower-trans : (a b c : List Belt) → lower a b ≡ true → lower b c ≡ true → lower a c ≡ true
 lower-trans [] [] c h k = absurd (true≢false (sym h))
@@ -140,7 +140,7 @@ lower-trans [] (f ∷ b) (g ∷ c) h k = refl
 lower-trans (e ∷ a) [] c h k = absurd (true≢false (sym h))
 lower-trans (e ∷ a) (f ∷ b) [] h k = absurd (true≢false (sym k))
 lower-trans (e ∷ a) (f ∷ b) (g ∷ c) h k =
-    first-trans (e .name) (f .name) (g .name) (lower a b) (lower b c) (lower a c) (lower-trans a b c) h k
+    first-trans (e .index) (f .index) (g .index) (lower a b) (lower b c) (lower a c) (lower-trans a b c) h k
 
 not-lower-trans : (a b c : List Belt) → lower a b ≡ false → lower b c ≡ false → lower a c ≡ false
 not-lower-trans [] [] [] h k = refl
@@ -149,7 +149,7 @@ not-lower-trans [] (f ∷ b) c h k = absurd (true≢false h)
 not-lower-trans (e ∷ a) b [] h k = refl
 not-lower-trans (e ∷ a) [] (g ∷ c) h k = absurd (true≢false k)
 not-lower-trans (e ∷ a) (f ∷ b) (g ∷ c) h k =
-    not-first-trans (e .name) (f .name) (g .name) (lower a b) (lower b c) (lower a c) (not-lower-trans a b c) h k
+    not-first-trans (e .index) (f .index) (g .index) (lower a b) (lower b c) (lower a c) (not-lower-trans a b c) h k
 
 -- ---- comes before
 
@@ -168,13 +168,13 @@ not-before-trans a b c h k = not-first-trans (cost a) (cost b) (cost c) (lower a
 pub before-cons : (e : Belt) (a b : List Belt) → before (e ∷ a) (e ∷ b) ≡ before a b
 before-cons e a b =
     first-add (e .cost) (cost a) (cost b) (lower (e ∷ a) (e ∷ b))
-    ∙ ap (first (cost a) (cost b)) (first-eq (e .name) (e .name) (lower a b) refl)
+    ∙ ap (first (cost a) (cost b)) (first-eq (e .index) (e .index) (lower a b) refl)
 
-pub no-earlier : (e f : Belt) (r s : List Belt) → cost (e ∷ r) ≤ cost (f ∷ s) → (cost (f ∷ s) ≡ cost (e ∷ r) → e .name ≤ f .name)
-    → (f .name ≡ e .name → s ≡ r) → before (f ∷ s) (e ∷ r) ≡ false
+pub no-earlier : (e f : Belt) (r s : List Belt) → cost (e ∷ r) ≤ cost (f ∷ s) → (cost (f ∷ s) ≡ cost (e ∷ r) → e .index ≤ f .index)
+    → (f .index ≡ e .index → s ≡ r) → before (f ∷ s) (e ∷ r) ≡ false
 no-earlier e f r s costs names same =
     not-first (cost (f ∷ s)) (cost (e ∷ r)) (lower (f ∷ s) (e ∷ r)) costs (λ c.
-    not-first (f .name) (e .name) (lower s r) (names c) (λ n. ap (λ (q : List Belt). lower q r) (same n) ∙ lower-irrefl r))
+    not-first (f .index) (e .index) (lower s r) (names c) (λ n. ap (λ (q : List Belt). lower q r) (same n) ∙ lower-irrefl r))
 
 -- ---- a belt leads higher
 
@@ -188,14 +188,14 @@ upward-claim b ok s t r h = (omega (arith, route-length ok s t r h), empty r (ro
 -- ---- of two different routes one comes before the other
 
 module _ {b : List ℕ} (ok : Accepted b) where
-  -- two routes that differ do so in a belt's name, or one of them goes on where the other ends
+  -- two routes that differ do so in a belt's index, or one of them goes on where the other ends
   lower-total : (s t : ℕ) (x y : List Belt) → IsRoute (planOf b) s t x → IsRoute (planOf b) s t y → lower x y ≡ false → lower y x ≡ false → x ≡ y
   lower-total s t [] [] p q h k = refl
   lower-total s t [] (f ∷ y) p q h k = absurd (true≢false h)
   lower-total s t (e ∷ x) [] p q h k = absurd (true≢false k)
   lower-total s t (e ∷ x) (f ∷ y) p q h k =
-      let (n, l, r) = neither-first (e .name) (f .name) (lower x y) (lower y x) h k in
-      let g : e ≡ f = belt-name ok e f (p .0) (q .0) n in
+      let (n, l, r) = neither-first (e .index) (f .index) (lower x y) (lower y x) h k in
+      let g : e ≡ f = belt-index ok e f (p .0) (q .0) n in
       let w : IsRoute (planOf b) (e .leads) t y = subst (λ (u : Belt). IsRoute (planOf b) (u .leads) t y) (sym g) (q .2) in
       let rest : x ≡ y = lower-total (e .leads) t x y (p .2) w l r in
       λ i. g i ∷ rest i
@@ -222,11 +222,11 @@ order-claim b ok s t =
 
 -- ---- routes as the code holds them
 
-lower-names : (a b : List Belt) → lower a b ≡ lowerIds (namesOf a) (namesOf b)
-lower-names [] [] = refl
-lower-names [] (f ∷ b) = refl
-lower-names (e ∷ a) [] = refl
-lower-names (e ∷ a) (f ∷ b) = ap (first (e .name) (f .name)) (lower-names a b)
+lower-indices : (a b : List Belt) → lower a b ≡ lowerIds (indicesOf a) (indicesOf b)
+lower-indices [] [] = refl
+lower-indices [] (f ∷ b) = refl
+lower-indices (e ∷ a) [] = refl
+lower-indices (e ∷ a) (f ∷ b) = ap (first (e .index) (f .index)) (lower-indices a b)
 
 pub lower-known : {b : List ℕ} → Accepted b → (x y : Route) → Known b x → Known b y → lower (routeIn b x) (routeIn b y) ≡ lowerIds (idsOf x) (idsOf y)
-lower-known {b} ok x y h k = lower-names (routeIn b x) (routeIn b y) ∙ (λ i. lowerIds (known-names ok x h i) (known-names ok y k i))
+lower-known {b} ok x y h k = lower-indices (routeIn b x) (routeIn b y) ∙ (λ i. lowerIds (known-indices ok x h i) (known-indices ok y k i))

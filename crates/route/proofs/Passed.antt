@@ -81,12 +81,12 @@ preferred-low n way e c false h k = go (way .required) (ltb c (way .cost))
     go false true = k
     go false false = h
 
-way-low : (x : Subproblem) (costs : List ℕ) (nearest n : ℕ) (way : Way) (es : List Belt) → way .belt .0 < n → ((e : Belt) → List·Memᴰ e es → e .name < n)
+way-low : (x : Subproblem) (costs : List ℕ) (nearest n : ℕ) (way : Way) (es : List Belt) → way .belt .0 < n → ((e : Belt) → List·Memᴰ e es → e .index < n)
     → wayBy x costs nearest way es .belt .0 < n
 way-low x costs nearest n way [] h all = h
 way-low x costs nearest n way (e ∷ es) h all =
-    way-low x costs nearest n (preferred way (beltId (e .name)) (costBy x costs nearest e) (isRequired x e)) es
-    (preferred-low n way (beltId (e .name)) (costBy x costs nearest e) (isRequired x e) h (all e (List·Memᴰ·head refl))) (λ f m. all f (List·Memᴰ·tail m))
+    way-low x costs nearest n (preferred way (beltId (e .index)) (costBy x costs nearest e) (isRequired x e)) es
+    (preferred-low n way (beltId (e .index)) (costBy x costs nearest e) (isRequired x e) h (all e (List·Memᴰ·head refl))) (λ f m. all f (List·Memᴰ·tail m))
 
 module _ {b : List ℕ} (ok : Accepted b) (bytes : Bytes b) (x : Subproblem) (t : ℕ) (inside : t ≤ planOf b .junctions) where
   -- the arrays by their size n, so that they are not written out
@@ -119,7 +119,7 @@ module _ {b : List ℕ} (ok : Accepted b) (bytes : Bytes b) (x : Subproblem) (t 
     pub passed-low : (way .belt .0 < maxRecords) × (way .cost ≤ costLimit)
     passed-low = (
       subst (λ (w : Way). w .belt .0 < maxRecords) (sym same)
-          (way-low x costs nearest maxRecords noWay (leaving (planOf b) u) (omega arith) (λ e m. belt-low ok (e .name) (belt-of ok e (leaving-in (planOf b) u e m .0) .0) .2)),
+          (way-low x costs nearest maxRecords noWay (leaving (planOf b) u) (omega arith) (λ e m. belt-low ok (e .index) (belt-of ok e (leaving-in (planOf b) u e m .0) .0) .2)),
       omega (arith, found .costBy, cost-low ok bytes x t inside u),
     )
 

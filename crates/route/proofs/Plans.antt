@@ -20,7 +20,7 @@ use Rattle.plan.specs.declared.read.Literal.the-variants.{OfBelt, OfMode}
 use Rattle.plan.specs.Plan.{Belt, Plan, planOf, beltAt}
 use Rattle.plan.specs.Reading.{Accepted}
 use Rattle.plan.proofs.Lists.{in-map, map-in, in-upto}
-use Rattle.plan.proofs.Reading.{belt-in, belt-name, belt-ends, literal-belt, literal-mode}
+use Rattle.plan.proofs.Reading.{belt-in, belt-index, belt-ends, literal-belt, literal-mode}
 use Rattle.route.specs.Lcsp.{free, Lit, Clause, Arc, arcVar, variables, IsPath, IsInstance}
 use Rattle.route.specs.declared.path.Trip.{Trip}
 use Rattle.route.specs.Routes.{IsRoute, cost}
@@ -31,7 +31,7 @@ use Rattle.route.specs.Claims.{CostClaim}
 
 -- the belt of an arc
 abbrev beltOf : Arc → Belt
-beltOf a = record { name = a .number; leaves = a .tail; leads = a .head; cost = a .weight }
+beltOf a = record { index = a .number; leaves = a .tail; leads = a .head; cost = a .weight }
 
 pub arcs-belts : (q : List Arc) → (r : List Belt) × (q ≡ map arcOf r)
 arcs-belts q = (map beltOf q, sym (map-map arcOf beltOf q ∙ map-id q))
@@ -94,8 +94,8 @@ module _ {b : List ℕ} (ok : Accepted b) where
       let (x, j, p) = map-in arcOf (planOf b .belts) m in
       let (y, k, q) = map-in arcOf (planOf b .belts) n in
       let same : a .number ≡ c .number = cc in
-      let number : x .name ≡ y .name = sym (ap (λ (d : Arc). d .number) p) ∙ same ∙ ap (λ (d : Arc). d .number) q in
-      p ∙ ap arcOf (belt-name ok x y j k number) ∙ sym q
+      let number : x .index ≡ y .index = sym (ap (λ (d : Arc). d .number) p) ∙ same ∙ ap (λ (d : Arc). d .number) q in
+      p ∙ ap arcOf (belt-index ok x y j k number) ∙ sym q
 
   node : (j : ℕ) → 1 ≤ j → j ≤ planOf b .junctions → (trip : Trip) → List·Memᴰ j (instanceOf (planOf b) trip .nodes)
   node j l u trip = in-upto 1 (suc (planOf b .junctions)) j l (omega arith)

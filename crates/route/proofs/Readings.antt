@@ -23,10 +23,10 @@ use lib.Seq.{getD-append-add, drop-cons}
 use lib.Dec.{eqb}
 use borrow.Author.Tests.{eqb-true, eq-eqb}
 use Rattle.plan.specs.Bounds.{fieldLimit, maxSheetBytes, maxSteps, recordBytes}
-use Rattle.plan.specs.Lists.{all, joined, run, within}
+use Rattle.plan.specs.Lists.{all, joined, iota, within}
 use Rattle.plan.specs.Records.{field, fieldBytes, recordOf}
 use Rattle.plan.specs.Reading.{Bytes}
-use Rattle.plan.proofs.Lists.{both, within-is, is-within, all-in, all-is, map-in, length-run, map-run, in-upto, upto-in}
+use Rattle.plan.proofs.Lists.{both, within-is, is-within, all-in, all-is, map-in, length-iota, map-iota, in-upto, upto-in}
 use Rattle.plan.proofs.Reading.{field-low}
 use Rattle.route.specs.Sheets.{nextOf, stepsFrom, headOf, sheetOf, Reads, steps, headFits, stepFits, places, inForm, beltsOn, costOn, settingOn}
 use Rattle.route.specs.Claims.{ReadingClaim, OneReadingClaim, RoundTripClaim}
@@ -178,7 +178,7 @@ module _ (es : List ℕ) (c σ : ℕ) where
 
   belts-back : beltsOn sheet ≡ es
   belts-back =
-      sym (map-run (λ (i : ℕ). field sheet i 2) 1 ((steps sheet + 1) - 1) 0 es (omega (arith, steps-back)) (λ k l.
+      sym (map-iota (λ (i : ℕ). field sheet i 2) 1 ((steps sheet + 1) - 1) 0 es (omega (arith, steps-back)) (λ k l.
       sym (sheet-step k (omega (arith, steps-back)) .belt)))
 
   cost-back : costOn sheet ≡ c
@@ -259,7 +259,7 @@ bottom : (x y z : ℕ) → z < fieldLimit → (x * (fieldLimit * fieldLimit) + y
 bottom x y z w = omega arith
 
 pub length-belts : (h : List ℕ) → length (beltsOn h) ≡ steps h
-length-belts h = omega (arith, length-map (places h) (λ (i : ℕ). field h i 2), length-run 1 ((steps h + 1) - 1))
+length-belts h = omega (arith, length-map (places h) (λ (i : ℕ). field h i 2), length-iota 1 ((steps h + 1) - 1))
 
 pub few-belts : (h : List ℕ) → InForm h → length (beltsOn h) ≤ maxSteps
 few-belts h f = omega (arith, length-belts h, f .most)
@@ -267,7 +267,7 @@ few-belts h f = omega (arith, length-belts h, f .most)
 module _ (h : List ℕ) (bytes : Bytes h) where
   -- n fields of record i, from field f on
   cut-fields : (i f n : ℕ) → recordBytes * i + 2 * (f + n) ≤ length h
-      → drop (recordBytes * i + 2 * f) h ≡ joined fieldBytes (map (field h i) (run f n)) ++ drop (recordBytes * i + 2 * (f + n)) h
+      → drop (recordBytes * i + 2 * f) h ≡ joined fieldBytes (map (field h i) (iota f n)) ++ drop (recordBytes * i + 2 * (f + n)) h
   cut-fields i f zero l =
       let q : recordBytes * i + 2 * f ≡ recordBytes * i + 2 * (f + zero) = omega arith in
       ap (λ (j : ℕ). drop j h) q
@@ -281,7 +281,7 @@ module _ (h : List ℕ) (bytes : Bytes h) where
       let one : drop j h ≡ x ∷ drop (suc j) h = drop-cons h j 0 (omega arith) in
       let two : drop (j + 1) h ≡ y ∷ drop (suc (j + 1)) h = drop-cons h (j + 1) 0 (omega arith) in
       let rest = cut-fields i (suc f) n (omega arith) in
-      let tail = ap (λ (k : ℕ). joined fieldBytes (map (field h i) (run (suc f) n)) ++ drop k h) u in
+      let tail = ap (λ (k : ℕ). joined fieldBytes (map (field h i) (iota (suc f) n)) ++ drop k h) u in
       let all = ap (λ (k : ℕ). drop k h) t ∙ rest ∙ tail in
       one
       ∙ ap (λ (k : ℕ). x ∷ drop k h) s
@@ -300,7 +300,7 @@ module _ (h : List ℕ) (bytes : Bytes h) where
   -- the last m records, where they are steps
   cut-steps : (n m i : ℕ) → length h ≡ recordBytes * (i + m)
       → ((k : ℕ) → i ≤ k → k < i + m → IsStep h k (nextOf n k) (field h k 2))
-      → drop (recordBytes * i) h ≡ stepsFrom n i (map (λ (k : ℕ). field h k 2) (run i m))
+      → drop (recordBytes * i) h ≡ stepsFrom n i (map (λ (k : ℕ). field h k 2) (iota i m))
   cut-steps n zero i l s = let past : length h ≤ recordBytes * i = omega arith in drop-of-length-le h past
   cut-steps n (suc m) i l s =
       let k = s i (omega arith) (omega arith) in
@@ -320,7 +320,7 @@ module _ (h : List ℕ) (bytes : Bytes h) where
       let c4 = bottom x y z (field-low h bytes 0 4) in
       let size = length-belts h in
       let e : n ≡ (n + 1) - 1 = omega arith in
-      let belts : map (λ (k : ℕ). field h k 2) (run 1 n) ≡ beltsOn h = ap (λ (m : ℕ). map (λ (k : ℕ). field h k 2) (run 1 m)) e in
+      let belts : map (λ (k : ℕ). field h k 2) (iota 1 n) ≡ beltsOn h = ap (λ (m : ℕ). map (λ (k : ℕ). field h k 2) (iota 1 m)) e in
       let last = cut-steps n n 1 (omega (arith, f .least, f .whole)) (λ k l u. f .step k l (omega arith)) in
       cut 0 (omega (arith, f .least))
       ∙ (λ j. recordOf (f .kind j) (f .next j) (sym c2 j) (sym c3 j) (sym c4 j) (settingOn h) ++ last j)

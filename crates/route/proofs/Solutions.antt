@@ -1,7 +1,7 @@
 -- Demand 2: what the check accepts are the sheets of feasible solutions, and every sheet of a permitted route is accepted.
 --
 --   fine-sheet, sheet-fine   line 11 is unbroken exactly where the sheet is in the form, names belts, and its setting is below 2^M
---   numbers-names            the numbers of a route's arcs are the names of its belts
+--   numbers-indices          the numbers of a route's arcs are the indices of its belts
 --   reads-written            the sheet of a route reads as its belts, its cost and its setting
 --   accepted-solved          an accepted sheet reads as a feasible solution
 --   solved-accepted          a sheet that reads as a feasible solution is accepted
@@ -20,14 +20,14 @@ use lib.Dec.{eqb, ltb}
 use borrow.Author.Tests.{eqb-true, eq-eqb, ltb-true, lt-ltb, not-false}
 use Rattle.plan.specs.Bounds.{fieldLimit, maxSteps}
 use Rattle.plan.specs.Lists.{all, mem}
-use Rattle.plan.specs.Plan.{Belt, Plan, planOf, namesOf}
+use Rattle.plan.specs.Plan.{Belt, Plan, planOf, indicesOf}
 use Rattle.plan.specs.Claims.{Unbroken}
 use Rattle.plan.specs.Reading.{Accepted, Bytes}
 use Rattle.plan.proofs.Lists.{both, and-is, all-is, in-map, map-in, in-mem}
-use Rattle.plan.proofs.Naming.{names-back}
+use Rattle.plan.proofs.Naming.{indices-back}
 use Rattle.plan.proofs.Reading.{plan-sizes, belt-of, belt-low}
 use Rattle.route.specs.Lcsp.{Arc, weightOf, FeasibleBy}
-use Rattle.route.specs.Routes.{IsRoute, connects, cost, beltsByName}
+use Rattle.route.specs.Routes.{IsRoute, connects, cost, beltsByIndex}
 use Rattle.route.specs.Permission.{passes, termsOf, works}
 use Rattle.route.specs.Instances.{arcOf, instanceOf, joint}
 use Rattle.route.specs.Sheets.{sheetOf, Reads, inForm, beltsOn, costOn, settingOn}
@@ -36,7 +36,7 @@ use Rattle.route.specs.Claims.{ReadsSolved, CheckClaim, WrittenClaim, Wr
 use Rattle.route.specs.Values.{idsOf, routeIn, bytesOf, caseOf}
 use Rattle.route.proofs.Plans.{arcs-belts, cost-weight}
 use Rattle.route.proofs.Feasible.{joint-feasible, feasible-joint}
-use Rattle.route.proofs.ByName.{named-map, names-belts, named-in, known-belts, connects-route, route-connects, route-belts, route-few, route-cheap, known-names}
+use Rattle.route.proofs.ByName.{indexed-map, indices-belts, indexed-in, known-belts, connects-route, route-connects, route-belts, route-few, route-cheap, known-indices}
 use Rattle.route.proofs.Lowest.{all-modes, lowest-claim}
 use Rattle.route.proofs.Readings.{round-trip, reading-claim}
 use Rattle.route.proofs.Checked.{Unrefused, zero-unrefused, unrefused-zero, trip-accepted, trip-ends, ends-inside}
@@ -45,7 +45,7 @@ use Rattle.route.proofs.Checked.{Unrefused, zero-unrefused, unrefused-z
 
 record FineSheet (k : Case) : Type 0 where
   form : inForm (k .sheet) ≡ true
-  known : all (λ (e : ℕ). mem e (namesOf (planOf (k .plan) .belts))) (beltsOn (k .sheet)) ≡ true
+  known : all (λ (e : ℕ). mem e (indicesOf (planOf (k .plan) .belts))) (beltsOn (k .sheet)) ≡ true
   low : ltb (settingOn (k .sheet)) (2 ^ planOf (k .plan) .modes) ≡ true
 
 module _ (k : Case) where
@@ -53,7 +53,7 @@ module _ (k : Case) where
   formed = inForm (k .sheet)
 
   abbrev belted : Bool
-  belted = all (λ (e : ℕ). mem e (namesOf (planOf (k .plan) .belts))) (beltsOn (k .sheet))
+  belted = all (λ (e : ℕ). mem e (indicesOf (planOf (k .plan) .belts))) (beltsOn (k .sheet))
 
   abbrev lowSet : Bool
   lowSet = ltb (settingOn (k .sheet)) (2 ^ planOf (k .plan) .modes)
@@ -69,10 +69,10 @@ module _ (k : Case) where
   unfolding broken11
   sheet-fine f = ap not (and-is (formed && belted) lowSet (and-is formed belted (f .form) (f .known)) (f .low))
 
--- ---- the numbers of arcs are the names of belts
+-- ---- the numbers of arcs are the indices of belts
 
-pub numbers-names : (r : List Belt) → map (λ (a : Arc). a .number) (map arcOf r) ≡ namesOf r
-numbers-names r = map-map (λ (a : Arc). a .number) arcOf r
+pub numbers-indices : (r : List Belt) → map (λ (a : Arc). a .number) (map arcOf r) ≡ indicesOf r
+numbers-indices r = map-map (λ (a : Arc). a .number) arcOf r
 
 -- ---- an accepted sheet reads as a feasible solution
 
@@ -89,11 +89,11 @@ module _ (k : Case) (bytes : Bytes (k .sheet)) (u : Unrefused k) where
   route : IsRoute (planOf (k .plan)) (k .trip .s) (k .trip .t) (routeOn k)
   unfolding broken12
   route =
-      connects-route ok (k .trip .s) (k .trip .t) (routeOn k) (named-in (planOf (k .plan)) es)
+      connects-route ok (k .trip .s) (k .trip .t) (routeOn k) (indexed-in (planOf (k .plan)) es)
       (not-false (connects (k .trip .s) (k .trip .t) (routeOn k)) (u .fine-12))
 
-  names : namesOf (routeOn k) ≡ es
-  names = ap namesOf (named-map ok es (known-belts ok es (fine .known))) ∙ names-back (k .plan) es
+  indices : indicesOf (routeOn k) ≡ es
+  indices = ap indicesOf (indexed-map ok es (known-belts ok es (fine .known))) ∙ indices-back (k .plan) es
 
   sum : cost (routeOn k) ≡ costOn (k .sheet)
   unfolding broken13
@@ -111,7 +111,7 @@ module _ (k : Case) (bytes : Bytes (k .sheet)) (u : Unrefused k) where
     reads = reading-claim (k .sheet) bytes .0 (fine .form);
     solution = record {
       path = map arcOf (routeOn k);
-      belts = numbers-names (routeOn k) ∙ names;
+      belts = numbers-indices (routeOn k) ∙ indices;
       cost = sym (cost-weight (routeOn k)) ∙ sum;
       setting = ltb-true (settingOn (k .sheet)) (2 ^ planOf (k .plan) .modes) (fine .low);
       feasible = joint-feasible ok (k .trip) (routeOn k) (settingOn (k .sheet)) route working;
@@ -141,20 +141,20 @@ module _ (k : Case) (trip : Unbroken tripLines (planTrip k)) (x : ReadsSolved k)
       feasible-joint okay (k .trip) r (x .setting)
       (subst (λ (q : List Arc). FeasibleBy (instanceOf p (k .trip)) q (joint p q (x .setting))) is-path (x .solution .feasible))
 
-  names-read : beltsOn (k .sheet) ≡ namesOf r
-  names-read = back .1 ∙ sym (x .solution .belts) ∙ ap (map (λ (a : Arc). a .number)) is-path ∙ numbers-names r
+  indices-read : beltsOn (k .sheet) ≡ indicesOf r
+  indices-read = back .1 ∙ sym (x .solution .belts) ∙ ap (map (λ (a : Arc). a .number)) is-path ∙ numbers-indices r
 
   read-is : routeOn k ≡ r
-  read-is = ap (beltsByName p) names-read ∙ names-belts okay r (route-belts p (k .trip .s) (k .trip .t) r (holds-for .0))
+  read-is = ap (beltsByIndex p) indices-read ∙ indices-belts okay r (route-belts p (k .trip .s) (k .trip .t) r (holds-for .0))
 
-  all-known : all (λ (e : ℕ). mem e (namesOf (p .belts))) (beltsOn (k .sheet)) ≡ true
-  all-known = all-is (λ (e : ℕ). mem e (namesOf (p .belts))) (beltsOn (k .sheet)) one
+  all-known : all (λ (e : ℕ). mem e (indicesOf (p .belts))) (beltsOn (k .sheet)) ≡ true
+  all-known = all-is (λ (e : ℕ). mem e (indicesOf (p .belts))) (beltsOn (k .sheet)) one
     where
-      one : (e : ℕ) → List·Memᴰ e (beltsOn (k .sheet)) → mem e (namesOf (p .belts)) ≡ true
+      one : (e : ℕ) → List·Memᴰ e (beltsOn (k .sheet)) → mem e (indicesOf (p .belts)) ≡ true
       one e m =
-          let (f, i, q) = map-in (λ (f : Belt). f .name) r (subst (List·Memᴰ e) names-read m) in
-          let n = in-map (λ (f : Belt). f .name) (route-belts p (k .trip .s) (k .trip .t) r (holds-for .0) f i) in
-          ap (λ (n : ℕ). mem n (namesOf (p .belts))) q ∙ in-mem (namesOf (p .belts)) n
+          let (f, i, q) = map-in (λ (f : Belt). f .index) r (subst (List·Memᴰ e) indices-read m) in
+          let n = in-map (λ (f : Belt). f .index) (route-belts p (k .trip .s) (k .trip .t) r (holds-for .0) f i) in
+          ap (λ (n : ℕ). mem n (indicesOf (p .belts))) q ∙ in-mem (indicesOf (p .belts)) n
 
   fine-route : broken12 k ≡ false
   unfolding broken12
@@ -193,19 +193,19 @@ module _ {b : List ℕ} (good : Accepted b) (plan-bytes : Bytes b) (s t : ℕ) (
   few : length way ≤ maxSteps
   few = route-few good s t way s-low t-high is-route
 
-  small : (e : ℕ) → List·Memᴰ e (namesOf way) → e < fieldLimit
+  small : (e : ℕ) → List·Memᴰ e (indicesOf way) → e < fieldLimit
   small e m =
-      let (f, i, q) = map-in (λ (f : Belt). f .name) way m in
+      let (f, i, q) = map-in (λ (f : Belt). f .index) way m in
       let is = belt-of good f (route-belts (planOf b) s t way is-route f i) .0 in
-      omega (arith, belt-low good (f .name) is .2)
+      omega (arith, belt-low good (f .index) is .2)
 
   tiny : σ < fieldLimit
   tiny = omega (arith, low, all-modes (planOf b .modes) (plan-sizes good .2))
 
-  pub reads-written : Reads (sheetOf (namesOf way) (cost way) σ) (namesOf way) (cost way) σ
+  pub reads-written : Reads (sheetOf (indicesOf way) (cost way) σ) (indicesOf way) (cost way) σ
   reads-written = record {
     written = refl;
-    short = omega (arith, few, length-map way (λ (f : Belt). f .name));
+    short = omega (arith, few, length-map way (λ (f : Belt). f .index));
     indices = small;
     cost-fits = route-cheap good plan-bytes s t way t-high is-route;
     setting-fits = tiny;
@@ -217,14 +217,14 @@ written-claim k fine bytes r route σ h =
     let ok = trip-accepted k fine in
     let (s-low, s-high, t-low, t-high) = ends-inside k (trip-ends k fine) in
     let (low, working, first) = lowest-claim (termsOf (planOf b) (k .trip)) r .0 σ .0 h in
-    solved-accepted (caseOf b (k .trip) (sheetOf (namesOf r) (cost r) σ)) fine record {
-      belts = namesOf r;
+    solved-accepted (caseOf b (k .trip) (sheetOf (indicesOf r) (cost r) σ)) fine record {
+      belts = indicesOf r;
       cost = cost r;
       setting = σ;
       reads = reads-written ok bytes (k .trip .s) (k .trip .t) s-low t-high r route σ low;
       solution = record {
         path = map arcOf r;
-        belts = numbers-names r;
+        belts = numbers-indices r;
         cost = sym (cost-weight r);
         setting = low;
         feasible = joint-feasible ok (k .trip) r σ route working;
@@ -234,6 +234,6 @@ written-claim k fine bytes r route σ h =
 pub writer-claim : WriterClaim
 writer-claim k fine bytes v known route sum least =
     let r : List Belt = routeIn (k .plan) (v .route) in
-    let names : namesOf r ≡ idsOf (v .route) = known-names (trip-accepted k fine) (v .route) known in
-    subst (λ (h : List ℕ). sheetRefusal (caseOf (k .plan) (k .trip) h) ≡ 0) (λ i. sheetOf (names i) (sym sum i) (v .setting))
+    let indices : indicesOf r ≡ idsOf (v .route) = known-indices (trip-accepted k fine) (v .route) known in
+    subst (λ (h : List ℕ). sheetRefusal (caseOf (k .plan) (k .trip) h) ≡ 0) (λ i. sheetOf (indices i) (sym sum i) (v .setting))
     (written-claim k fine bytes r route (v .setting) least)

@@ -1,8 +1,8 @@
 -- Loops over the belts of a junction in the adjacency array.
 --
 --   Arc b a e              the number a is the arc of belt e of the plan b
---   arc-place              the place of its belt is looked up by the arc's name, and has a bit in a mask
---   arc-low                where it leads, and its name, are low
+--   arc-place              the place of its belt is looked up by the arc's index, and has a bit in a mask
+--   arc-low                where it leads, and its index, are low
 --   Span b arcs i n es     the arcs from place i on and before place n, which all are there, are the belts es of the plan b
 --   Left b arcs i n P      Invariant: these belts, which are still unread, satisfy P
 --   end-low                the places where the arcs of junctions end are low
@@ -20,37 +20,37 @@ use lib.ListN.{length, getD, take, drop}
 use lib.Seq.{take-nil, drop-nil}
 use Rattle.plan.specs.Bounds.{junctionPlaces, maxRecords}
 use Rattle.plan.specs.Plan.{Belt, planOf, leaving, named, placeOf, placeIn}
-use Rattle.plan.specs.Adjacency.{arcOf, arcCost, arcHead, arcName, inOrder}
+use Rattle.plan.specs.Adjacency.{wordOf, wordCost, wordHead, wordIndex, inOrder}
 use Rattle.plan.specs.Reading.{Accepted, Bytes}
 use Rattle.plan.proofs.Reading.{plan-sizes, leaving-in, belt-of, belt-low, belt-ends}
 use Rattle.route.specs.Values.{namedPlaces, LowPlace}
 use Rattle.route.specs.Inner.{Lent}
-use Rattle.plan.proofs.Arcs.{arc-parts, order-few, order-next, ends-at, arcs-fit, arcs-of}
+use Rattle.plan.proofs.Arcs.{word-parts, order-few, order-next, offsets-at, arcs-fit, arcs-of}
 use Rattle.route.proofs.Fixed.{place-low, looked-up}
 
 -- ---- one arc
 
 pub record Arc (b : List ℕ) (a : ℕ) (e : Belt) : Type 0 where
   pub belt : List·Memᴰ e (planOf b .belts)
-  pub costs : arcCost a ≡ e .cost
-  pub leads : arcHead a ≡ e .leads
-  pub names : arcName a ≡ e .name
+  pub costs : wordCost a ≡ e .cost
+  pub leads : wordHead a ≡ e .leads
+  pub indexed : wordIndex a ≡ e .index
 
 module _ {b : List ℕ} (ok : Accepted b) {a : ℕ} {e : Belt} (arc : Arc b a e) where
-  -- where it leads, and its name, are low
-  pub arc-low : (arcHead a < junctionPlaces) × (arcName a < maxRecords)
+  -- where it leads, and its index, are low
+  pub arc-low : (wordHead a < junctionPlaces) × (wordIndex a < maxRecords)
   arc-low =
       let top = belt-ends ok e (arc .belt) .2 in
       let few = plan-sizes ok .1 in
-      let name = belt-low ok (e .name) (belt-of ok e (arc .belt) .0) .2 in
-      (omega (arith, arc .leads), omega (arith, arc .names))
+      let index = belt-low ok (e .index) (belt-of ok e (arc .belt) .0) .2 in
+      (omega (arith, arc .leads), omega (arith, arc .indexed))
 
   pub arc-place : {places : List ℕ} → places ≡ namedPlaces b
-      → (placeIn places (arcName a) ≡ placeOf (named (planOf b)) (e .name)) × LowPlace (placeIn places (arcName a))
+      → (placeIn places (wordIndex a) ≡ placeOf (named (planOf b)) (e .index)) × LowPlace (placeIn places (wordIndex a))
   arc-place {places} all =
-      let there : placeIn places (arcName a) ≡ placeOf (named (planOf b)) (arcName a) = looked-up b (arcName a) all refl (arc-low .1) in (
-        there ∙ ap (placeOf (named (planOf b))) (arc .names),
-        subst LowPlace (sym there) (place-low ok (arcName a)),
+      let there : placeIn places (wordIndex a) ≡ placeOf (named (planOf b)) (wordIndex a) = looked-up b (wordIndex a) all refl (arc-low .1) in (
+        there ∙ ap (placeOf (named (planOf b))) (arc .indexed),
+        subst LowPlace (sym there) (place-low ok (wordIndex a)),
       )
 
 -- ---- arcs side by side
@@ -60,7 +60,7 @@ pub record Span (b arcs : List ℕ) (i n : ℕ) (es : List Belt) : Type 0 where
   pub few : n < maxRecords
   pub fits : n ≤ length arcs
   belts : (e : Belt) → List·Memᴰ e es → List·Memᴰ e (planOf b .belts)
-  stand : take (length es) (drop i arcs) ≡ map arcOf es
+  stand : take (length es) (drop i arcs) ≡ map wordOf es
 
 pub record Left (b arcs : List ℕ) (i n : ℕ) (P : List Belt → Type 0) : Type 0 where
   pub es : List Belt
@@ -84,19 +84,19 @@ taken (x ∷ l) zero n y ys h = (cc, cc)
 taken (x ∷ l) (suc i) n y ys h = taken l i n y ys h
 
 module _ {b : List ℕ} (ok : Accepted b) where
-  end-at : {places ends arcs : List ℕ} → Lent b places ends arcs → (u : ℕ) → u ≤ planOf b .junctions → getD ends u 0 ≡ length (inOrder (planOf b) u)
-  end-at lent u l = ap (λ (ends : List ℕ). getD ends u 0) (lent .ended) ∙ ends-at ok u l
+  end-at : {places offsets arcs : List ℕ} → Lent b places offsets arcs → (u : ℕ) → u ≤ planOf b .junctions → getD offsets u 0 ≡ length (inOrder (planOf b) u)
+  end-at lent u l = ap (λ (offsets : List ℕ). getD offsets u 0) (lent .ended) ∙ offsets-at ok u l
 
-  pub end-low : {places ends arcs : List ℕ} → Lent b places ends arcs → (u : ℕ) → u ≤ planOf b .junctions → getD ends u 0 < maxRecords
+  pub end-low : {places offsets arcs : List ℕ} → Lent b places offsets arcs → (u : ℕ) → u ≤ planOf b .junctions → getD offsets u 0 < maxRecords
   end-low lent u l = omega (arith, end-at lent u l, order-few ok u)
 
-  pub left-start : {places ends arcs : List ℕ} → Lent b places ends arcs → (u : ℕ) → 1 ≤ u → u ≤ planOf b .junctions
-      → {P : List Belt → Type 0} → P (leaving (planOf b) u) → Left b arcs (getD ends (u - 1) 0) (getD ends u 0) P
-  left-start {places} {ends} {arcs} lent zero low high h = absurd (omega arith)
-  left-start {places} {ends} {arcs} lent (suc v) low high h =
+  pub left-start : {places offsets arcs : List ℕ} → Lent b places offsets arcs → (u : ℕ) → 1 ≤ u → u ≤ planOf b .junctions
+      → {P : List Belt → Type 0} → P (leaving (planOf b) u) → Left b arcs (getD offsets (u - 1) 0) (getD offsets u 0) P
+  left-start {places} {offsets} {arcs} lent zero low high h = absurd (omega arith)
+  left-start {places} {offsets} {arcs} lent (suc v) low high h =
       let back : suc v - 1 ≡ v = omega arith in
-      let before : getD ends (suc v - 1) 0 ≡ length (inOrder (planOf b) v) = ap (λ (j : ℕ). getD ends j 0) back ∙ end-at lent v (omega arith) in
-      let after : getD ends (suc v) 0 ≡ length (inOrder (planOf b) (suc v)) = end-at lent (suc v) high in
+      let before : getD offsets (suc v - 1) 0 ≡ length (inOrder (planOf b) v) = ap (λ (j : ℕ). getD offsets j 0) back ∙ end-at lent v (omega arith) in
+      let after : getD offsets (suc v) 0 ≡ length (inOrder (planOf b) (suc v)) = end-at lent (suc v) high in
       record {
         es = leaving (planOf b) (suc v);
         span = record {
@@ -113,13 +113,13 @@ module _ {b : List ℕ} (ok : Accepted b) where
     first : (es : List Belt) → Span b arcs i n es → P es → i < n → Next b arcs i n P
     first [] s h l = absurd (omega (arith, s .reach))
     first (e ∷ rest) s h l =
-        let (here, next) = taken arcs i (length rest) (arcOf e) (map arcOf rest) (s .stand) in
+        let (here, next) = taken arcs i (length rest) (wordOf e) (map wordOf rest) (s .stand) in
         let m = s .belts e (List·Memᴰ·head refl) in
-        let (costs, leads, names) = arc-parts ok bytes e m in
+        let (costs, leads, names) = word-parts ok bytes e m in
         record {
           belt = e;
           others = rest;
-          arc = record { belt = m; costs = ap arcCost here ∙ costs; leads = ap arcHead here ∙ leads; names = ap arcName here ∙ names };
+          arc = record { belt = m; costs = ap wordCost here ∙ costs; leads = ap wordHead here ∙ leads; indexed = ap wordIndex here ∙ names };
           passes = h;
           span = record {
             reach = omega (arith, s .reach);

@@ -27,7 +27,7 @@ use Rattle.plan.specs.Lists.{any}
 use Rattle.plan.specs.Plan.{Belt, planOf, leaving, beltId}
 use Rattle.plan.specs.Reading.{Accepted, Bytes}
 use Rattle.plan.proofs.Lists.{test, never, neither, any-none, any-some}
-use Rattle.plan.proofs.Reading.{in-leaving, leaving-in, belt-name, belt-ends}
+use Rattle.plan.proofs.Reading.{in-leaving, leaving-in, belt-index, belt-ends}
 use Rattle.route.specs.declared.relax.Way.{Way}
 use Rattle.route.specs.Routes.{IsRoute, cost, costLimit, before}
 use Rattle.route.specs.Subproblems.{Subproblem, admits}
@@ -208,7 +208,7 @@ module _ {b : List ℕ} (ok : Accepted b) (bytes : Bytes b) (x : Subproblem) (t 
             let e-costs : on e ≡ cost (e ∷ r) = leads-price e r m k in
             let f-costs : on f ≡ cost (f ∷ s) = leads-price f s i j in
             not-before-trans (f ∷ q) (f ∷ s) (e ∷ r) (before-cons f q s ∙ d) (no-earlier e f r s (omega arith) (λ c. early (omega arith)) (λ c.
-            let z : f ≡ e = belt-name ok f e (h .0) (leaving-in (planOf b) u e m .0) c in
+            let z : f ≡ e = belt-index ok f e (h .0) (leaving-in (planOf b) u e m .0) c in
             Option·some-injective s r (sym (j .rest) ∙ ap (λ (g : Belt). wayOn (planOf b) x t (g .leads)) z ∙ k .rest)))
 
     found-none : (way : Way) → way .cost ≡ costLimit → way .required ≡ any (isRequired x) here → wayOn (planOf b) x t u ≡ none → Found b x t u way
@@ -228,7 +228,7 @@ module _ {b : List ℕ} (ok : Accepted b) (bytes : Bytes b) (x : Subproblem) (t 
             let h : wayOn (planOf b) x t u ≡ some (e ∷ r) = first-way e r m a k best in
             record {
               costBy = c ∙ leads-price e r m k ∙ sym (ap wayCost h);
-              belt = λ d q v. g ∙ ap (λ (f : Belt). beltId (f .name)) (head-eq-of-cons-eq (Option·some-injective (e ∷ r) (d ∷ q) (sym h ∙ v)));
+              belt = λ d q v. g ∙ ap (λ (f : Belt). beltId (f .index)) (head-eq-of-cons-eq (Option·some-injective (e ∷ r) (d ∷ q) (sym h ∙ v)));
               cuts = w;
             }
 

@@ -38,7 +38,7 @@ use mathlib.Core.Bool.{true, false}
 use mathlib.Core.Option.{none, some}
 use Prim.Native.Nat.{ℕ, _^_, _≤_, _<_}
 use mathlib.Core.List.{List, [], _++_, map, List·Memᴰ}
-use Rattle.plan.specs.Plan.{Belt, planOf, namesOf}
+use Rattle.plan.specs.Plan.{Belt, planOf, indicesOf}
 use Rattle.plan.specs.Claims.{Unbroken, FirstIn}
 use Rattle.plan.specs.Reading.{Accepted, Bytes}
 use Rattle.route.specs.Lcsp.{Var, Lit, Formula, IsAssignment, _givenAll_, Satisfies, Arc, IsInstance, weightOf, FeasibleBy, Feasible}
@@ -86,7 +86,7 @@ LowestClaim = (terms : Terms) (r : List Belt) →
 
 abbrev pub MaskClaim : Type 0
 MaskClaim = (b : List ℕ) → Accepted b → (trip : Trip) (r : List Belt) → ((e : Belt) → List·Memᴰ e r → List·Memᴰ e (planOf b .belts))
-    → lowest (termsOf (planOf b) trip) (hasBelt b (maskOf b (namesOf r))) ≡ lowest (termsOf (planOf b) trip) (passes r)
+    → lowest (termsOf (planOf b) trip) (hasBelt b (maskOf b (indicesOf r))) ≡ lowest (termsOf (planOf b) trip) (passes r)
 
 -- irreflexive, transitive, and of two different routes one comes before the other; and no route goes on where another ends, so that
 -- two different ones have a first difference
@@ -115,13 +115,13 @@ RelaxedClaim = (b : List ℕ) → Accepted b → (s t : ℕ) (x : Subproblem) �
 
 abbrev pub CutClaim : Type 0
 CutClaim = (b : List ℕ) → Accepted b → (s t : ℕ) (r : List Belt) → IsRoute (planOf b) s t r
-    → (g : Belt) → List·Memᴰ g (planOf b .belts) → (passes r (g .name) ≡ true) ↔ Restricts s t g r
+    → (g : Belt) → List·Memᴰ g (planOf b .belts) → (passes r (g .index) ≡ true) ↔ Restricts s t g r
 
 abbrev pub EnforcedClaim : Type 0
 EnforcedClaim = (b : List ℕ) → Accepted b → (s t : ℕ) (r : List Belt) → IsRoute (planOf b) s t r
-    → (x : Subproblem) → ((e : ℕ) → List·Memᴰ e (x .required) → List·Memᴰ e (namesOf (planOf b .belts)))
+    → (x : Subproblem) → ((e : ℕ) → List·Memᴰ e (x .required) → List·Memᴰ e (indicesOf (planOf b .belts)))
     → (admits x r ≡ true)
-    ↔ (((g : Belt) → List·Memᴰ g (planOf b .belts) → List·Memᴰ (g .name) (x .required) → Restricts s t g r)
+    ↔ (((g : Belt) → List·Memᴰ g (planOf b .belts) → List·Memᴰ (g .index) (x .required) → Restricts s t g r)
     × ((e : ℕ) → List·Memᴰ e (x .forbidden) → passes r e ≡ false))
 
 -- ---- sheets
@@ -161,7 +161,7 @@ CheckClaim = (k : Case) → Bytes (k .sheet) → (sheetRefusal k ≡ 0) ↔ (Unb
 abbrev pub WrittenClaim : Type 0
 WrittenClaim = (k : PlanTrip) → Unbroken tripLines k → Bytes (k .plan) → (r : List Belt) → IsRoute (planOf (k .plan)) (k .trip .s) (k .trip .t) r
     → (σ : ℕ) → lowest (termsOf (planOf (k .plan)) (k .trip)) (passes r) ≡ some σ
-    → sheetRefusal (caseOf (k .plan) (k .trip) (sheetOf (namesOf r) (cost r) σ)) ≡ 0
+    → sheetRefusal (caseOf (k .plan) (k .trip) (sheetOf (indicesOf r) (cost r) σ)) ≡ 0
 
 abbrev pub WriterClaim : Type 0
 WriterClaim = (k : PlanTrip) → Unbroken tripLines k → Bytes (k .plan) → (v : Sheet) → Known (k .plan) (v .route)

@@ -10,11 +10,11 @@ use mathlib.Core.Option.{none, some}
 use Prim.Native.Nat.{ℕ}
 use mathlib.Core.List.{List, [], _∷_, _++_, map}
 use Rattle.plan.specs.Records.{recordOf, rowOf, fits, linksAt, links}
-use Rattle.plan.specs.Plan.{Plan, planOf, named, namesOf}
+use Rattle.plan.specs.Plan.{Plan, planOf, named, indicesOf}
 use Rattle.plan.specs.Refusals.{broken1, broken2, broken3, broken4, broken5, broken6, broken7}
 use Rattle.plan.specs.Examples.{planP}
 use Rattle.route.specs.Lcsp.{_givenAll_}
-use Rattle.route.specs.Routes.{before, routes, beltsByName}
+use Rattle.route.specs.Routes.{before, routes, beltsByIndex}
 use Rattle.route.specs.declared.path.Trip.{Trip}
 use Rattle.route.specs.Permission.{passes, planTerms, lowest}
 use Rattle.route.specs.Subproblems.{Subproblem, relaxed}
@@ -26,7 +26,7 @@ use Rattle.route.specs.Refusals.{broken8, broken11, broken12, broken13, 
 -- ---- routes of P
 
 -- from 1 to 3 by belts 4 and 6, or by belt 5; none from 3 to 1, and the empty one from 1 to 1
-routes-1-3 : map namesOf (routes (planOf planP) 1 3) ≡ (4 ∷ 6 ∷ []) ∷ (5 ∷ []) ∷ []
+routes-1-3 : map indicesOf (routes (planOf planP) 1 3) ≡ (4 ∷ 6 ∷ []) ∷ (5 ∷ []) ∷ []
 unfolding planP planOf
 routes-1-3 = refl
 
@@ -39,7 +39,7 @@ unfolding planP planOf
 routes-1-1 = refl
 
 -- 4 6 costs 7 and 5 costs 9
-cheaper : before (beltsByName (planOf planP) (4 ∷ 6 ∷ [])) (beltsByName (planOf planP) (5 ∷ [])) ≡ true
+cheaper : before (beltsByIndex (planOf planP) (4 ∷ 6 ∷ [])) (beltsByIndex (planOf planP) (5 ∷ [])) ≡ true
 unfolding planP planOf
 cheaper = refl
 
@@ -49,7 +49,7 @@ abbrev from-1-to-3 : Trip
 from-1-to-3 = record { s = 1; t = 3 }
 
 abbrev lowestOf : List ℕ → List ℕ → mathlib.Core.Option.Option ℕ
-lowestOf b es = lowest (planTerms (planOf b)) (passes (beltsByName (planOf b) es))
+lowestOf b es = lowest (planTerms (planOf b)) (passes (beltsByIndex (planOf b) es))
 
 -- the rule: not belt 4, or not belt 6
 P-5 : lowestOf planP (5 ∷ []) ≡ some 0
@@ -61,11 +61,11 @@ unfolding planP planOf
 P-4-6 = refl
 
 -- conditioning by the joint assignment of belt 5 and setting 0 leaves nothing; that of belts 4 and 6 leaves the empty clause
-P-5-leaves : instanceOf (planOf planP) from-1-to-3 .formula givenAll joint (planOf planP) (map arcOf (beltsByName (planOf planP) (5 ∷ []))) 0 ≡ []
+P-5-leaves : instanceOf (planOf planP) from-1-to-3 .formula givenAll joint (planOf planP) (map arcOf (beltsByIndex (planOf planP) (5 ∷ []))) 0 ≡ []
 unfolding planP planOf
 P-5-leaves = refl
 
-P-4-6-leaves : instanceOf (planOf planP) from-1-to-3 .formula givenAll joint (planOf planP) (map arcOf (beltsByName (planOf planP) (4 ∷ 6 ∷ []))) 1 ≡ [] ∷ []
+P-4-6-leaves : instanceOf (planOf planP) from-1-to-3 .formula givenAll joint (planOf planP) (map arcOf (beltsByIndex (planOf planP) (4 ∷ 6 ∷ []))) 1 ≡ [] ∷ []
 unfolding planP planOf
 P-4-6-leaves = refl
 
@@ -112,11 +112,11 @@ abbrev fixing : List ℕ → List ℕ → Subproblem
 fixing es fs = record { required = es; forbidden = fs }
 
 -- from 1 to 3 the rule of P is left aside
-P-relaxed : relaxed (planOf planP) 1 3 (fixing [] []) ≡ some (beltsByName (planOf planP) (4 ∷ 6 ∷ []))
+P-relaxed : relaxed (planOf planP) 1 3 (fixing [] []) ≡ some (beltsByIndex (planOf planP) (4 ∷ 6 ∷ []))
 unfolding planP planOf relaxed
 P-relaxed = refl
 
-P-without-4 : relaxed (planOf planP) 1 3 (fixing [] (4 ∷ [])) ≡ some (beltsByName (planOf planP) (5 ∷ []))
+P-without-4 : relaxed (planOf planP) 1 3 (fixing [] (4 ∷ [])) ≡ some (beltsByIndex (planOf planP) (5 ∷ []))
 unfolding planP planOf relaxed
 P-without-4 = refl
 
@@ -156,20 +156,20 @@ planTwins = record {
   junctions = 3;
   modes = 0;
   belts =
-      record { name = 4; leaves = 1; leads = 2; cost = 3 }
-      ∷ record { name = 5; leaves = 1; leads = 2; cost = 3 }
-      ∷ record { name = 6; leaves = 1; leads = 3; cost = 7 }
-      ∷ record { name = 7; leaves = 2; leads = 3; cost = 4 }
+      record { index = 4; leaves = 1; leads = 2; cost = 3 }
+      ∷ record { index = 5; leaves = 1; leads = 2; cost = 3 }
+      ∷ record { index = 6; leaves = 1; leads = 3; cost = 7 }
+      ∷ record { index = 7; leaves = 2; leads = 3; cost = 4 }
       ∷ [];
   rules = [];
 }
 
 -- all three routes cost 7: the lower index at the first difference decides
-twins-relaxed : relaxed planTwins 1 3 (fixing [] []) ≡ some (beltsByName planTwins (4 ∷ 7 ∷ []))
+twins-relaxed : relaxed planTwins 1 3 (fixing [] []) ≡ some (beltsByIndex planTwins (4 ∷ 7 ∷ []))
 unfolding relaxed
 twins-relaxed = refl
 
-twins-without-4 : relaxed planTwins 1 3 (fixing [] (4 ∷ [])) ≡ some (beltsByName planTwins (5 ∷ 7 ∷ []))
+twins-without-4 : relaxed planTwins 1 3 (fixing [] (4 ∷ [])) ≡ some (beltsByIndex planTwins (5 ∷ 7 ∷ []))
 unfolding relaxed
 twins-without-4 = refl
 

@@ -4,7 +4,7 @@
 --                   literal l has a code: a named belt that can be looked up in the array of places, or a mode up to maxModes
 --   isTrue on c     the literal of code c holds, where the mask `on` has the variables that are on
 --   stores f l is   the array l with f i at place i, for each i of the list `is`
---   lowerIds es fs  `lower` of routes with the names es and fs
+--   lowerIds es fs  `lower` of routes with the indices es and fs
 --   contentRefusal p trip v
 --                   the first broken one of lines 11 to 14 (sheetBy), or 0, by what a sheet in the form says
 -- The relaxed route, found from t backwards:
@@ -49,8 +49,8 @@ use lib.Dec.{eqb, leb, ltb}
 use Rattle.plan.specs.declared.read.BeltId.{BeltId}
 use Rattle.plan.specs.Bounds.{junctionPlaces, maxModes, maxNamed, maxRecords}
 use Rattle.plan.specs.Lists.{all, keep, mem}
-use Rattle.plan.specs.Plan.{Belt, Plan, planOf, namesOf, beltId}
-use Rattle.plan.specs.Adjacency.{arcsIn, endsOf}
+use Rattle.plan.specs.Plan.{Belt, Plan, planOf, indicesOf, beltId}
+use Rattle.plan.specs.Adjacency.{arcsIn, offsetsOf}
 use Rattle.plan.specs.Reading.{Accepted}
 use Rattle.plan.specs.declared.read.Literal.{Literal}
 use Rattle.plan.specs.declared.read.Literal.the-variants.{OfBelt, OfMode}
@@ -58,7 +58,7 @@ use Rattle.route.specs.declared.sheet.Sheet.{Sheet}
 use Rattle.route.specs.declared.path.Trip.{Trip}
 use Rattle.route.specs.declared.relax.Fixings.{Fixings}
 use Rattle.route.specs.declared.relax.Way.{Way}
-use Rattle.route.specs.Routes.{connects, cost, costLimit, first, beltsByName}
+use Rattle.route.specs.Routes.{connects, cost, costLimit, first, beltsByIndex}
 use Rattle.route.specs.Permission.{passes, termsOf, works}
 use Rattle.route.specs.Subproblems.{Subproblem, relaxed}
 use Rattle.route.specs.Values.{idsOf, subproblemIn, namedPlaces}
@@ -90,32 +90,32 @@ sheetBy a b c d = elim a [ true ↦ 11 | false ↦ elim b [ true ↦ 12 | false 
 
 abbrev pub contentRefusal : Plan → Trip → Sheet → ℕ
 contentRefusal p trip v =
-    let r = beltsByName p (idsOf (v .route)) in
+    let r = beltsByIndex p (idsOf (v .route)) in
     sheetBy
-    (not (all (λ (e : ℕ). mem e (namesOf (p .belts))) (idsOf (v .route)) && ltb (v .setting) (2 ^ p .modes)))
+    (not (all (λ (e : ℕ). mem e (indicesOf (p .belts))) (idsOf (v .route)) && ltb (v .setting) (2 ^ p .modes)))
     (not (connects (trip .s) (trip .t) r))
     (not (eqb (cost r) (v .cost)))
     (not (works (termsOf p trip) (passes r) (v .setting)))
 
 -- ---- the relaxed route
 
-pub record Lent (b places ends arcs : List ℕ) : Type 0 where
+pub record Lent (b places offsets arcs : List ℕ) : Type 0 where
   pub accepted : Accepted b
   pub placed : places ≡ namedPlaces b
-  pub ended : ends ≡ endsOf (planOf b)
+  pub ended : offsets ≡ offsetsOf (planOf b)
   pub listed : arcs ≡ arcsIn (length arcs) (planOf b)
 
 abbrev pub isRequired : Subproblem → Belt → Bool
-isRequired x e = mem (e .name) (x .required)
+isRequired x e = mem (e .index) (x .required)
 
 abbrev pub isForbidden : Subproblem → Belt → Bool
-isForbidden x e = mem (e .name) (x .forbidden)
+isForbidden x e = mem (e .index) (x .forbidden)
 
 abbrev pub isOwed : Subproblem → ℕ → ℕ → Belt → Bool
 isOwed x t u e = isRequired x e && (leb u (e .leaves) && ltb (e .leaves) t)
 
 abbrev pub remaining : Plan → Subproblem → ℕ → ℕ → Subproblem
-remaining p x t u = record { required = namesOf (keep (isOwed x t u) (p .belts)); forbidden = x .forbidden }
+remaining p x t u = record { required = indicesOf (keep (isOwed x t u) (p .belts)); forbidden = x .forbidden }
 
 abbrev pub wayOn : Plan → Subproblem → ℕ → ℕ → Option (List Belt)
 wayOn p x t u = relaxed p u t (remaining p x t u)
@@ -159,10 +159,10 @@ preferred way e c required =
 
 abbrev pub wayBy : Subproblem → List ℕ → ℕ → Way → List Belt → Way
 wayBy x costs nearest way [] = way
-wayBy x costs nearest way (e ∷ es) = wayBy x costs nearest (preferred way (beltId (e .name)) (costBy x costs nearest e) (isRequired x e)) es
+wayBy x costs nearest way (e ∷ es) = wayBy x costs nearest (preferred way (beltId (e .index)) (costBy x costs nearest e) (isRequired x e)) es
 
 abbrev pub Begins : Plan → Subproblem → ℕ → ℕ → BeltId → Type 0
-Begins p x t u v = (e : Belt) (r : List Belt) → wayOn p x t u ≡ some (e ∷ r) → v ≡ beltId (e .name)
+Begins p x t u v = (e : Belt) (r : List Belt) → wayOn p x t u ≡ some (e ∷ r) → v ≡ beltId (e .index)
 
 abbrev pub Guides : List ℕ → Fixings → ℕ → ℕ → List BeltId → Type 0
 Guides b f t s firsts = (u : ℕ) → s ≤ u → Begins (planOf b) (subproblemIn b f) t u (getD firsts u (beltId 0))

@@ -18,7 +18,7 @@ use Rattle.route.specs.declared.path.Trip.{Trip}
 use Rattle.route.specs.Permission.{isOn, termsOf}
 
 abbrev pub arcOf : Belt → Arc
-arcOf e = record { number = e .name; tail = e .leaves; head = e .leads; weight = e .cost }
+arcOf e = record { number = e .index; tail = e .leaves; head = e .leads; weight = e .cost }
 
 abbrev pub litOf : Literal → Lit
 litOf (OfBelt e wanted) = record { positive = wanted; var = graph (e .0) }

@@ -4,7 +4,7 @@
 --   BitLaw        bit k of a mask is for the k-th of the named belts
 --   MasksLaw      every subproblem of named belts has masks, with the same relaxed routes
 --   Holdable b r  the route r can be tested, written and checked: it costs less than costLimit, so a bound of costLimit - 1 does not drop it; a
---                 Route holds it, of at most maxSteps belts, all of the plan; and out of room that the code put its belts into the same Route is read
+--                 Route holds it, of at most maxSteps belts, all of the plan; and the same Route is read out of an array that its belts were put into
 --   AnswerLaw     every relaxed route is holdable
 --   ReadBackLaw   the code reads back whatever `sheet::write` may be given
 --
@@ -18,14 +18,14 @@ use lib.ListN.{length, getD}
 use lib.Dec.{eqb}
 use Rattle.plan.specs.Bounds.{maxSteps}
 use Rattle.plan.specs.Lists.{mem}
-use Rattle.plan.specs.Plan.{Belt, planOf, namesOf, named}
+use Rattle.plan.specs.Plan.{Belt, planOf, indicesOf, named}
 use Rattle.plan.specs.Reading.{Accepted, Bytes}
 use Rattle.route.specs.declared.sheet.Sheet.{Sheet}
 use Rattle.route.specs.declared.relax.Fixings.{Fixings}
 use Rattle.route.specs.Routes.{cost, costLimit}
 use Rattle.route.specs.Subproblems.{Subproblem, relaxed}
 use Rattle.route.specs.Sheets.{inForm}
-use Rattle.route.specs.Values.{idsOf, packed, Known, routeIn, sheetIn, bytesOf, fixedIn, OfNamed, subproblemIn, routeOf, firstBelts, atMost, keptOf}
+use Rattle.route.specs.Values.{idsOf, packed, Known, routeIn, sheetIn, bytesOf, fixedIn, OfNamed, subproblemIn, routeOf, firstBelts, atMost, walkedOf}
 
 abbrev pub BitLaw : Type 0
 BitLaw = (b : List ℕ) (m k : ℕ) → k < length (named (planOf b))
@@ -41,9 +41,9 @@ pub record Holdable (b : List ℕ) (r : List Belt) : Type 0 where
   pub cheap : cost r < costLimit
   pub within : atMost (costLimit - 1) (some r) ≡ some r
   pub known : Known b (routeOf r)
-  pub names : idsOf (routeOf r) ≡ namesOf r
+  pub indices : idsOf (routeOf r) ≡ indicesOf r
   pub same : routeIn b (routeOf r) ≡ r
-  pub back : (room : List ℕ) → length room ≡ maxSteps → firstBelts (length r) (keptOf (some r) room) ≡ routeOf r
+  pub back : (array : List ℕ) → length array ≡ maxSteps → firstBelts (length r) (walkedOf (some r) array) ≡ routeOf r
 
 abbrev pub AnswerLaw : Type 0
 AnswerLaw = (b : List ℕ) → Accepted b → Bytes b → (s t : ℕ) → 1 ≤ s → t ≤ planOf b .junctions → (x : Subproblem) (r : List Belt)

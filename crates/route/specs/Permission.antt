@@ -26,13 +26,13 @@ use mathlib.Core.List.{List, [], _∷_}
 use lib.Dec.{eqb}
 use Rattle.plan.specs.declared.read.Literal.{Literal}
 use Rattle.plan.specs.declared.read.Literal.the-variants.{OfBelt, OfMode}
-use Rattle.plan.specs.Lists.{any, all, run}
+use Rattle.plan.specs.Lists.{any, all, iota}
 use Rattle.plan.specs.Plan.{Belt, Plan}
 use Rattle.route.specs.declared.path.Trip.{Trip}
 use Rattle.route.specs.Routes.{IsRoute}
 
 abbrev pub passes : List Belt → ℕ → Bool
-passes r e = any (λ (f : Belt). eqb (f .name) e) r
+passes r e = any (λ (f : Belt). eqb (f .index) e) r
 
 abbrev pub isOn : ℕ → ℕ → Bool
 isOn σ m = eqb (σ / 2 ^ (m - 1) % 2) 1
@@ -85,4 +85,4 @@ find f [] = none
 find f (x ∷ xs) = orElse (f x) x (find f xs)
 
 abbrev pub lowest : Terms → (ℕ → Bool) → Option ℕ
-lowest terms on = find (works terms on) (run 0 (2 ^ terms .modes))
+lowest terms on = find (works terms on) (iota 0 (2 ^ terms .modes))

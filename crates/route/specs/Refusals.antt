@@ -19,12 +19,12 @@ use mathlib.Core.Bool.{Bool, not, _&&_}
 use mathlib.Core.List.{List, [], _∷_, _++_, map}
 use lib.Dec.{eqb, ltb}
 use Rattle.plan.specs.Lists.{all, mem}
-use Rattle.plan.specs.Plan.{Belt, planOf, namesOf}
+use Rattle.plan.specs.Plan.{Belt, planOf, indicesOf}
 use Rattle.plan.specs.Refusals.{Line, about, planLines, firstBroken, refusalNumber}
 use Rattle.route.specs.declared.path.Trip.{Trip}
 use Rattle.route.specs.declared.check.SheetVerdict.{SheetVerdict}
 use Rattle.route.specs.declared.check.SheetVerdict.the-variants.{Accepted, Refused}
-use Rattle.route.specs.Routes.{wrongEnds, connects, cost, beltsByName}
+use Rattle.route.specs.Routes.{wrongEnds, connects, cost, beltsByIndex}
 use Rattle.route.specs.Permission.{passes, termsOf, works}
 use Rattle.route.specs.Sheets.{inForm, beltsOn, costOn, settingOn}
 
@@ -48,11 +48,11 @@ broken8 k = wrongEnds (planOf (k .plan)) (k .trip .s) (k .trip .t)
 unfoldable pub broken11 : Case → Bool
 broken11 k =
     not (inForm (k .sheet)
-    && all (λ (e : ℕ). mem e (namesOf (planOf (k .plan) .belts))) (beltsOn (k .sheet))
+    && all (λ (e : ℕ). mem e (indicesOf (planOf (k .plan) .belts))) (beltsOn (k .sheet))
     && ltb (settingOn (k .sheet)) (2 ^ planOf (k .plan) .modes))
 
 abbrev pub routeOn : Case → List Belt
-routeOn k = beltsByName (planOf (k .plan)) (beltsOn (k .sheet))
+routeOn k = beltsByIndex (planOf (k .plan)) (beltsOn (k .sheet))
 
 -- 12: belts not a route from s to t
 unfoldable pub broken12 : Case → Bool

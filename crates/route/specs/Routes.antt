@@ -7,7 +7,7 @@
 --   before a b        route a comes before b: it costs less, or as much and at the first difference its belt index is lower (lower)
 --   routes p s t      all routes from s to t; a belt leads higher, so none has more than t - s belts
 --   Distinct rs       no route stands in the list rs twice
---   beltsByName p es  the belts of p with these names, in the names' order
+--   beltsByIndex p es  the belts of p with these indices, in this order
 --
 -- That there is none for s > t and only the empty one for s = t, that `before` is a strict total order on the routes from s to t, and that
 -- `routes` lists exactly the routes, each once, are laws (Claims.antt). Assumes nothing.
@@ -49,7 +49,7 @@ abbrev pub lower : List Belt → List Belt → Bool
 lower [] [] = false
 lower [] (f ∷ b) = true
 lower (e ∷ a) [] = false
-lower (e ∷ a) (f ∷ b) = first (e .name) (f .name) (lower a b)
+lower (e ∷ a) (f ∷ b) = first (e .index) (f .index) (lower a b)
 
 abbrev pub before : List Belt → List Belt → Bool
 before a b = first (cost a) (cost b) (lower a b)
@@ -77,7 +77,7 @@ abbrev pub Distinct : List (List Belt) → Type 0
 Distinct [] = Unit {0}
 Distinct (r ∷ rs) = (List·Memᴰ r rs → ⊥) × Distinct rs
 
--- ---- belts by their names
+-- ---- belts by their indices
 
-abbrev pub beltsByName : Plan → List ℕ → List Belt
-beltsByName p es = joined (λ (e : ℕ). keep (λ (x : Belt). eqb (x .name) e) (p .belts)) es
+abbrev pub beltsByIndex : Plan → List ℕ → List Belt
+beltsByIndex p es = joined (λ (e : ℕ). keep (λ (x : Belt). eqb (x .index) e) (p .belts)) es

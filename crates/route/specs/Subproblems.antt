@@ -1,6 +1,6 @@
 -- Subproblems and their relaxed routes (paper 01, "Subproblems").
 --
---   Subproblem         some belts required and some forbidden, each by its name. Those of the search are named belts; nothing here asks it
+--   Subproblem         some belts required and some forbidden, each by its index. Those of the search are named belts; nothing here asks it
 --   admits x r         route r has every required and no forbidden belt of subproblem x
 --   firstOf rs         the one of the routes rs that comes before all others, if there are any: of two the earlier
 --   relaxed p s t x    the relaxed route: the first of ALL routes from s to t that x admits, rules left aside; none if x admits none

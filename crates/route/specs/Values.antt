@@ -1,9 +1,9 @@
 -- What the values that the code hands about mean. `Trip`, `Route`, `Sheet`, `Lowest`, `Fixings` and `Summary` are declared by the code.
 --
---   idsOf r          the names of the belts that a Route holds: the first `count` of its array
+--   idsOf r          the indices of the belts that a Route holds: the first `count` of its array
 --   packed es        the Route that holds the belts es, the rest of its array 0
 --   routeOf r        the Route that holds the belts of the route r
---   firstBelts n ns  the Route of the first n belts of an array of names
+--   firstBelts n ns  the Route of the first n belts of an array of indices
 --   Known b r        a Route of at most maxSteps belts, all of them belts of the plan b
 --   routeIn b r      the belts of the plan b that a Route holds
 --   sheetIn h        the Sheet that the bytes h read as
@@ -26,7 +26,8 @@
 --   exitsOf b        for each number from 0 to maxJunctions the named belts of the plan b that leave the junction of this number, as a mask
 --   atMost c o       the route o, if there is one and it costs at most c
 --   summaryAs b o    the answer that stands for the cost of a route of the plan b, how many belts it has and the named ones, or for none (noSummary)
---   keptOf o room    the array room with the names of the belts of the route o, if there is one, from the first place on
+--   walkedOf o array
+--                    the array with the indices of the belts of the route o, if there is one, from the first place on
 --   codeIn places l  the code of literal l: twice its variable, and 1 more where it is wanted (codeBy). The variable of a belt is its place among
 --                    the named belts, as the array of places has it; that of mode m stands m behind the last place (lastPlace)
 --   ruleEntry b r    the entry of rule r of the plan b: the next rule, and fieldLimit times its first literal
@@ -54,7 +55,7 @@ use Rattle.plan.specs.declared.named.Place.the-variants.{At, Unnamed}
 use Rattle.plan.specs.Bounds.{fieldLimit, junctionPlaces, maxNamed, maxRecords, maxSteps}
 use Rattle.plan.specs.Lists.{keep, upto}
 use Rattle.plan.specs.Records.{records}
-use Rattle.plan.specs.Plan.{Belt, planOf, literalAt, namesOf, leaving, named, beltId, listed, placeOf, placesOf, placeIn}
+use Rattle.plan.specs.Plan.{Belt, planOf, literalAt, indicesOf, leaving, named, beltId, listed, placeOf, placesOf, placeIn}
 use Rattle.plan.specs.Reading.{IsBelt, isRuleAt, isLiteralAt, firstRule, nextRule, firstLiteral, nextLiteral}
 use Rattle.route.specs.declared.path.Route.{Route}
 use Rattle.route.specs.declared.sheet.Sheet.{Sheet}
@@ -63,7 +64,7 @@ use Rattle.route.specs.declared.modes.Lowest.the-variants.{Works, Nothin
 use Rattle.route.specs.declared.path.Trip.{Trip}
 use Rattle.route.specs.declared.relax.Fixings.{Fixings}
 use Rattle.route.specs.declared.relax.Summary.{Summary}
-use Rattle.route.specs.Routes.{cost, costLimit, beltsByName}
+use Rattle.route.specs.Routes.{cost, costLimit, beltsByIndex}
 use Rattle.route.specs.Subproblems.{Subproblem}
 use Rattle.route.specs.Sheets.{sheetOf, beltsOn, costOn, settingOn}
 use Rattle.route.specs.Refusals.{Case}
@@ -75,7 +76,7 @@ abbrev pub packed : List ℕ → Route
 packed es = record { count = length es; belts = map beltId es ++ replicate (maxSteps - length es) (beltId 0) }
 
 abbrev pub routeOf : List Belt → Route
-routeOf r = packed (namesOf r)
+routeOf r = packed (indicesOf r)
 
 abbrev pub firstBelts : ℕ → List ℕ → Route
 firstBelts n ns = packed (take n ns)
@@ -85,7 +86,7 @@ pub record Known (b : List ℕ) (r : Route) : Type 0 where
   pub belts : (e : ℕ) → List·Memᴰ e (idsOf r) → IsBelt b e
 
 abbrev pub routeIn : List ℕ → Route → List Belt
-routeIn b r = beltsByName (planOf b) (idsOf r)
+routeIn b r = beltsByIndex (planOf b) (idsOf r)
 
 abbrev pub sheetIn : List ℕ → Sheet
 sheetIn h = record { route = packed (beltsOn h); cost = costOn h; setting = settingOn h }
@@ -141,7 +142,7 @@ abbrev pub hasBelt : List ℕ → ℕ → ℕ → Bool
 hasBelt b m e = inMask m (placeOf (named (planOf b)) e)
 
 unfoldable pub exitsOf : List ℕ → List ℕ
-exitsOf b = map (λ (u : ℕ). maskOf b (namesOf (leaving (planOf b) u))) (upto 0 junctionPlaces)
+exitsOf b = map (λ (u : ℕ). maskOf b (indicesOf (leaving (planOf b) u))) (upto 0 junctionPlaces)
 
 abbrev pub atMost : ℕ → Option (List Belt) → Option (List Belt)
 atMost c none = none
@@ -152,11 +153,11 @@ noSummary = record { cost = costLimit; count = 0; named = 0 }
 
 abbrev pub summaryAs : List ℕ → Option (List Belt) → Summary
 summaryAs b none = noSummary
-summaryAs b (some r) = record { cost = cost r; count = length r; named = maskOf b (namesOf r) }
+summaryAs b (some r) = record { cost = cost r; count = length r; named = maskOf b (indicesOf r) }
 
-abbrev pub keptOf : Option (List Belt) → List ℕ → List ℕ
-keptOf none room = room
-keptOf (some r) room = sets room 0 (namesOf r)
+abbrev pub walkedOf : Option (List Belt) → List ℕ → List ℕ
+walkedOf none array = array
+walkedOf (some r) array = sets array 0 (indicesOf r)
 
 -- ---- clauses
 
@@ -193,7 +194,7 @@ clausesIn n b = map (entryOf b) (upto 0 n)
 
 pub record Clauses (b cs : List ℕ) : Type 0 where
   pub whole : cs ≡ clausesIn (length cs) b
-  pub room : records b ≤ length cs
+  pub records-fit : records b ≤ length cs
 
 -- ---- the sheet check
 

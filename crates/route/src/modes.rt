@@ -5,7 +5,7 @@ use plan::read::ModeId;
 ghost use mathlib.Core.Path.{_≡_};
 ghost use Prim.Native.Nat.{_+_, _^_, _≤_};
 ghost use Rattle.plan.specs.Bounds.{maxModes};
-ghost use Rattle.plan.specs.Lists.{run};
+ghost use Rattle.plan.specs.Lists.{iota};
 ghost use Rattle.plan.specs.Plan.{planOf};
 ghost use Rattle.plan.specs.Reading.{Accepted};
 ghost use Rattle.route.specs.Permission.{allMet, find, planTerms, lowest};
@@ -25,7 +25,7 @@ fn settle(p: &[u8], clauses: &[u32], belts: u64, mode: ModeId, setting: u16) -> 
         × OfNamed (now p) belts
         × (mode .0 ≤ maxModes)
         × (setting + 2 ^ mode .0 ≤ 2 ^ maxModes) ⌝ }
-    ensures { λ v. ⌜ settingIn v ≡ find (allMet (planOf (now (p .entry)) .rules) (hasBelt (now (p .entry)) belts)) (run setting (2 ^ mode .0)) ⌝ }
+    ensures { λ v. ⌜ settingIn v ≡ find (allMet (planOf (now (p .entry)) .rules) (hasBelt (now (p .entry)) belts)) (iota setting (2 ^ mode .0)) ⌝ }
 {
     if mode.0 == 0 {
         if rules::all_met(p, clauses, belts, setting) {
@@ -46,7 +46,7 @@ fn try_both(p: &[u8], clauses: &[u32], belts: u64, mode: ModeId, setting: u16) -
         × (1 ≤ mode .0)
         × (mode .0 ≤ maxModes)
         × (setting + 2 ^ mode .0 ≤ 2 ^ maxModes) ⌝ }
-    ensures { λ v. ⌜ settingIn v ≡ find (allMet (planOf (now (p .entry)) .rules) (hasBelt (now (p .entry)) belts)) (run setting (2 ^ mode .0)) ⌝ }
+    ensures { λ v. ⌜ settingIn v ≡ find (allMet (planOf (now (p .entry)) .rules) (hasBelt (now (p .entry)) belts)) (iota setting (2 ^ mode .0)) ⌝ }
 {
     let lower = mode.0 - 1;
     let with_mode = setting + (1u16 << lower);

@@ -10,7 +10,7 @@ ghost use mathlib.Core.Bool.{not};
 ghost use lib.ListN.{length};
 ghost use Rattle.plan.specs.Bounds.{maxSteps};
 ghost use Rattle.plan.specs.Lists.{all, mem, within};
-ghost use Rattle.plan.specs.Plan.{planOf, namesOf};
+ghost use Rattle.plan.specs.Plan.{planOf, indicesOf};
 ghost use Rattle.plan.specs.Reading.{Accepted};
 ghost use Rattle.route.specs.Routes.{wrongEnds, connects, cost, costLimit, before};
 ghost use Rattle.route.specs.Values.{idsOf, Known, routeIn, firstBelts};
@@ -76,7 +76,7 @@ pub fn wrong_ends(p: &[u8], trip: Trip) -> bool
 pub fn are_belts(p: &[u8], route: Route) -> bool
     requires { ⌜ Accepted (now p)
         × (route .count ≤ maxSteps) ⌝ }
-    ensures { λ v. ⌜ v ≡ all (λ (e : ℕ). mem e (namesOf (planOf (now (p .entry)) .belts))) (idsOf route) ⌝ }
+    ensures { λ v. ⌜ v ≡ all (λ (e : ℕ). mem e (indicesOf (planOf (now (p .entry)) .belts))) (idsOf route) ⌝ }
 {
     let mut k = 0;
     while k < route.count {

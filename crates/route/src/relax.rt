@@ -33,12 +33,12 @@ ghost use lib.ListN.{length, getD, replicate};
 ghost use lib.Dec.{ltb};
 ghost use Rattle.plan.specs.Bounds.{junctionPlaces, maxRecords};
 ghost use Rattle.plan.specs.Lists.{any, upto};
-ghost use Rattle.plan.specs.Plan.{planOf, beltAt, namesOf, leaving, named, listed, placeIn, beltId};
-ghost use Rattle.plan.specs.Adjacency.{arcHead, arcName, arcsIn, endsOf};
+ghost use Rattle.plan.specs.Plan.{planOf, beltAt, indicesOf, leaving, named, listed, placeIn, beltId};
+ghost use Rattle.plan.specs.Adjacency.{wordHead, wordIndex, arcsIn, offsetsOf};
 ghost use Rattle.plan.specs.Reading.{Accepted, IsBelt};
 ghost use Rattle.route.specs.Routes.{wrongEnds, costLimit};
 ghost use Rattle.route.specs.Subproblems.{relaxed};
-ghost use Rattle.route.specs.Values.{inMask, LowPlace, OfNamed, subproblemIn, namedPlaces, numbersOf, maskOf, exitsOf, atMost, noSummary, summaryAs, keptOf};
+ghost use Rattle.route.specs.Values.{inMask, LowPlace, OfNamed, subproblemIn, namedPlaces, numbersOf, maskOf, exitsOf, atMost, noSummary, summaryAs, walkedOf};
 ghost use Rattle.route.specs.Inner.{Lent, isRequired, wayOver, noWay, wayBy, wayIn, wayCost, Guides, costsIn, firstsIn, Spared, joinedIn};
 
 // A subproblem: masks over the named belts of the plan, bit k for the belt at place k among them.
@@ -133,28 +133,28 @@ fn by_required(
 
 // Whether a belt is not forbidden and leads no further than `nearest`.
 fn is_open(places: &[u8; MAX_RECORDS], forbidden: u64, nearest: usize, arc: u64) -> bool
-    requires { ⌜ (arcName arc < maxRecords)
-        × LowPlace (placeIn (now places) (arcName arc)) ⌝ }
-    ensures { λ v. ⌜ v ≡ not (inMask forbidden (placeIn (now (places .entry)) (arcName arc)) || ltb nearest (arcHead arc)) ⌝ }
+    requires { ⌜ (wordIndex arc < maxRecords)
+        × LowPlace (placeIn (now places) (wordIndex arc)) ⌝ }
+    ensures { λ v. ⌜ v ≡ not (inMask forbidden (placeIn (now (places .entry)) (wordIndex arc)) || ltb nearest (wordHead arc)) ⌝ }
 {
     if nearest < adjacency::head(arc) {
         return false;
     }
-    !masks::has(forbidden, named::place_of(places, adjacency::name(arc)))
+    !masks::has(forbidden, named::place_of(places, adjacency::index(arc)))
 }
 
 // The cheapest way on from junction u where no required belt leaves it. Only a belt that would improve on the best so far is tested by `is_open`.
 fn cheapest(
     p: &[u8],
     places: &[u8; MAX_RECORDS],
-    ends: &[u16; JUNCTION_PLACES],
+    offsets: &[u16; JUNCTION_PLACES],
     arcs: &[u64],
     fixings: Fixings,
     ways: &[u64; JUNCTION_PLACES],
     nearest: usize,
     u: usize,
 ) -> Way
-    requires { ⌜ Lent (now p) (now places) (now ends) (now arcs)
+    requires { ⌜ Lent (now p) (now places) (now offsets) (now arcs)
         × ((j : ℕ) → getD (costsIn (now ways)) j 0 ≤ costLimit)
         × (1 ≤ u)
         × (u ≤ planOf (now p) .junctions)
@@ -163,8 +163,8 @@ fn cheapest(
 {
     let mut best = NO_WAY;
     let mut belt = BeltId(0);
-    let end = ends[u] as usize;
-    let mut i = ends[u - 1] as usize;
+    let end = offsets[u] as usize;
+    let mut i = offsets[u - 1] as usize;
     while i < end {
         let arc = arcs[i];
         let to = adjacency::head(arc);
@@ -172,7 +172,7 @@ fn cheapest(
         if over < best {
             if is_open(places, fixings.forbidden, nearest, arc) {
                 best = over;
-                belt = adjacency::name(arc);
+                belt = adjacency::index(arc);
             }
         }
         i += 1;
@@ -189,7 +189,7 @@ fn way_from(
     p: &[u8],
     places: &[u8; MAX_RECORDS],
     belts: &[u16; MAX_NAMED],
-    ends: &[u16; JUNCTION_PLACES],
+    offsets: &[u16; JUNCTION_PLACES],
     arcs: &[u64],
     exits: &[u64; JUNCTION_PLACES],
     fixings: Fixings,
@@ -197,7 +197,7 @@ fn way_from(
     nearest: usize,
     u: usize,
 ) -> Way
-    requires { ⌜ Lent (now p) (now places) (now ends) (now arcs)
+    requires { ⌜ Lent (now p) (now places) (now offsets) (now arcs)
         × (now exits ≡ exitsOf (now p))
         × ((j : ℕ) → getD (costsIn (now ways)) j 0 ≤ costLimit)
         × (1 ≤ u)
@@ -208,7 +208,7 @@ fn way_from(
 {
     let hit = exits[u] & fixings.required;
     if hit == 0 {
-        return cheapest(p, places, ends, arcs, fixings, ways, nearest, u);
+        return cheapest(p, places, offsets, arcs, fixings, ways, nearest, u);
     }
     by_required(p, belts, fixings, ways, nearest, u, hit)
 }
@@ -220,7 +220,7 @@ fn ways_to(
     p: &[u8],
     places: &[u8; MAX_RECORDS],
     belts: &[u16; MAX_NAMED],
-    ends: &[u16; JUNCTION_PLACES],
+    offsets: &[u16; JUNCTION_PLACES],
     arcs: &[u64],
     exits: &[u64; JUNCTION_PLACES],
     fixings: Fixings,
@@ -229,7 +229,7 @@ fn ways_to(
     t: usize,
     ways: &mut [u64; JUNCTION_PLACES],
 ) -> u64
-    requires { ⌜ Lent (now p) (now places) (now ends) (now arcs)
+    requires { ⌜ Lent (now p) (now places) (now offsets) (now arcs)
         × (now exits ≡ exitsOf (now p))
         × (1 ≤ s)
         × (s ≤ t)
@@ -250,7 +250,7 @@ fn ways_to(
             p,
             places,
             belts,
-            ends,
+            offsets,
             arcs,
             exits,
             fixings,
@@ -282,7 +282,7 @@ fn first_of(ways: &[u64; JUNCTION_PLACES], u: usize) -> BeltId
     BeltId((ways[u] % BELTS) as u16)
 }
 
-// The forward walk from s, where there is a way on: stores the indices of its belts in `kept`, from the first place on.
+// The forward walk from s, where there is a way on: stores the indices of its belts in `walked`, from the first place on.
 fn walk(
     p: &[u8],
     places: &[u8; MAX_RECORDS],
@@ -291,7 +291,7 @@ fn walk(
     ways: &[u64; JUNCTION_PLACES],
     s: usize,
     t: usize,
-    kept: &mut [u16; MAX_STEPS],
+    walked: &mut [u16; MAX_STEPS],
 ) -> Summary
     requires { ⌜ Accepted (now p)
         × (now places ≡ namedPlaces (now p))
@@ -301,14 +301,14 @@ fn walk(
         × (cost ≡ wayCost (wayIn (now p) fixings t s))
         × Guides (now p) fixings t s (firstsIn (now ways)) ⌝ }
     ensures { λ v. ⌜ (v ≡ summaryAs (now (p .entry)) (wayIn (now (p .entry)) fixings t s))
-        × (now (kept .exit) ≡ keptOf (wayIn (now (p .entry)) fixings t s) (now (kept .entry))) ⌝ }
+        × (now (walked .exit) ≡ walkedOf (wayIn (now (p .entry)) fixings t s) (now (walked .entry))) ⌝ }
 {
     let mut count = 0;
     let mut seen = 0u64;
     let mut at = s;
     while at != t {
         let belt = first_of(ways, at);
-        kept[count] = belt.0;
+        walked[count] = belt.0;
         count += 1;
         seen = masks::with(seen, named::place_of(places, belt));
         at = read::leads_to(p, belt);
@@ -377,26 +377,26 @@ fn nothing() -> Summary
     }
 }
 
-// The relaxed route from s to t of a subproblem, if it costs at most `bound`: the indices of its belts are stored in `kept`, from the first place on,
-// and the rest of `kept` does not change. These arguments are made once for all subproblems of a plan: the places of its named belts
+// The relaxed route from s to t of a subproblem, if it costs at most `bound`: the indices of its belts are stored in `walked`, from the first place on,
+// and the rest of `walked` does not change. These arguments are made once for all subproblems of a plan: the places of its named belts
 // (plan::named::named_places) and their indices (`numbers`), its adjacency array (plan::adjacency::decode), and the named belts that leave each
 // junction (`exits`). `ways` is scratch space, all 0 before and after.
 pub fn relaxed_route(
     p: &[u8],
     places: &[u8; MAX_RECORDS],
     belts: &[u16; MAX_NAMED],
-    ends: &[u16; JUNCTION_PLACES],
+    offsets: &[u16; JUNCTION_PLACES],
     arcs: &[u64],
     exits: &[u64; JUNCTION_PLACES],
     trip: Trip,
     fixings: Fixings,
     bound: u64,
     ways: &mut [u64; JUNCTION_PLACES],
-    kept: &mut [u16; MAX_STEPS],
+    walked: &mut [u16; MAX_STEPS],
 ) -> Summary
     requires { ⌜ Accepted (now p)
         × (now places ≡ namedPlaces (now p))
-        × (now ends ≡ endsOf (planOf (now p)))
+        × (now offsets ≡ offsetsOf (planOf (now p)))
         × (now arcs ≡ arcsIn (length (now arcs)) (planOf (now p)))
         × (now exits ≡ exitsOf (now p))
         × (wrongEnds (planOf (now p)) (trip .s) (trip .t) ≡ false)
@@ -407,8 +407,8 @@ pub fn relaxed_route(
     ensures { λ v. ⌜ (v
         ≡ summaryAs (now (p .entry)) (atMost bound (relaxed (planOf (now (p .entry))) (trip .s) (trip .t) (subproblemIn (now (p .entry)) fixings))))
         × (now (ways .exit) ≡ now (ways .entry))
-        × (now (kept .exit)
-        ≡ keptOf (atMost bound (relaxed (planOf (now (p .entry))) (trip .s) (trip .t) (subproblemIn (now (p .entry)) fixings))) (now (kept .entry))) ⌝ }
+        × (now (walked .exit)
+        ≡ walkedOf (atMost bound (relaxed (planOf (now (p .entry))) (trip .s) (trip .t) (subproblemIn (now (p .entry)) fixings))) (now (walked .entry))) ⌝ }
 {
     if !may_lead(p, exits, trip, fixings) {
         return nothing();
@@ -419,7 +419,7 @@ pub fn relaxed_route(
         p,
         places,
         belts,
-        ends,
+        offsets,
         arcs,
         exits,
         fixings,
@@ -430,7 +430,7 @@ pub fn relaxed_route(
     );
     let mut summary = nothing();
     if cost != NO_WAY {
-        summary = walk(p, places, fixings, cost, ways, s, t, kept);
+        summary = walk(p, places, fixings, cost, ways, s, t, walked);
     }
     clear(ways, s, t);
     summary
@@ -456,38 +456,38 @@ pub fn numbers(p: &[u8], list: Named) -> [u16; MAX_NAMED]
 fn exits_at(
     p: &[u8],
     places: &[u8; MAX_RECORDS],
-    ends: &[u16; JUNCTION_PLACES],
+    offsets: &[u16; JUNCTION_PLACES],
     arcs: &[u64],
     u: usize,
 ) -> u64
-    requires { ⌜ Lent (now p) (now places) (now ends) (now arcs)
+    requires { ⌜ Lent (now p) (now places) (now offsets) (now arcs)
         × (1 ≤ u)
         × (u ≤ planOf (now p) .junctions) ⌝ }
-    ensures { λ v. ⌜ v ≡ maskOf (now (p .entry)) (namesOf (leaving (planOf (now (p .entry))) u)) ⌝ }
+    ensures { λ v. ⌜ v ≡ maskOf (now (p .entry)) (indicesOf (leaving (planOf (now (p .entry))) u)) ⌝ }
 {
     let mut mask = 0u64;
-    let end = ends[u] as usize;
-    let mut i = ends[u - 1] as usize;
+    let end = offsets[u] as usize;
+    let mut i = offsets[u - 1] as usize;
     while i < end {
-        let belt = adjacency::name(arcs[i]);
+        let belt = adjacency::index(arcs[i]);
         mask = masks::with(mask, named::place_of(places, belt));
         i += 1;
     }
     mask
 }
 
-// Fills an array that is all 0 before: for each junction of a plan the mask of the named belts that leave it. `places`, `ends` and `arcs` are those
+// Fills an array that is all 0 before: for each junction of a plan the mask of the named belts that leave it. `places`, `offsets` and `arcs` are those
 // of the plan, as for `relaxed_route`.
 pub fn exits(
     p: &[u8],
     places: &[u8; MAX_RECORDS],
-    ends: &[u16; JUNCTION_PLACES],
+    offsets: &[u16; JUNCTION_PLACES],
     arcs: &[u64],
     exits: &mut [u64; JUNCTION_PLACES],
 )
     requires { ⌜ Accepted (now p)
         × (now places ≡ namedPlaces (now p))
-        × (now ends ≡ endsOf (planOf (now p)))
+        × (now offsets ≡ offsetsOf (planOf (now p)))
         × (now arcs ≡ arcsIn (length (now arcs)) (planOf (now p)))
         × (now exits ≡ replicate junctionPlaces 0) ⌝ }
     ensures { λ _. ⌜ now (exits .exit) ≡ exitsOf (now (p .entry)) ⌝ }
@@ -495,7 +495,7 @@ pub fn exits(
     let last = read::junctions(p);
     let mut u = 1;
     while u <= last {
-        exits[u] = exits_at(p, places, ends, arcs, u);
+        exits[u] = exits_at(p, places, offsets, arcs, u);
         u += 1;
     }
 }

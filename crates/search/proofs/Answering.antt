@@ -30,7 +30,7 @@ use lib.Dec.{ltb}
 use borrow.Author.Tests.{ltb-true, ltb-false}
 use Rattle.plan.specs.Bounds.{maxSheetBytes}
 use Rattle.plan.proofs.Lists.{test, never}
-use Rattle.plan.specs.Plan.{Belt, planOf, namesOf}
+use Rattle.plan.specs.Plan.{Belt, planOf, indicesOf}
 use Rattle.plan.specs.Reading.{Accepted, Bytes}
 use Rattle.route.specs.Routes.{cost, lower, before}
 use Rattle.route.specs.Lcsp.{Arc, Instance, weightOf, Feasible, Solves}
@@ -45,7 +45,7 @@ use Rattle.route.proofs.Readings.{length-sheet}
 use Rattle.route.proofs.Plans.{cost-weight}
 use Rattle.route.proofs.Feasible.{permitted-claim, paths-claim}
 use Rattle.route.proofs.Order.{first-gt}
-use Rattle.route.proofs.Solutions.{numbers-names, reads-written, written-claim}
+use Rattle.route.proofs.Solutions.{numbers-indices, reads-written, written-claim}
 use Rattle.search.specs.Search.{Problem, Ending, foundRoute, foundNone, budgetSpent, Turn, settingOf, stateAt}
 use Rattle.search.specs.Answers.{Request, tripIn, asked, searchRefusal, Outcome, route, nothing, spent, orZero, endingOf, endedBy, ended, problemIn, outcome, outAfter}
 use Rattle.search.specs.Claims.{InLimits, Answered, EndsClaim, AcceptedClaim, Cheapest, openedOf, withBudget, IsSpent, Right, RightClaim, RunRight, Solved, SolvesClaim}
@@ -86,13 +86,13 @@ module _ (terms : Terms) (v : Turn) where
       go (some e) = ending (v .state .best) e
 
   ended-route : (es : List ℕ) (c σ n : ℕ) → ended terms v ≡ route es c σ n
-      → (v .ending ≡ some foundRoute) × ((r : List Belt) → v .state .best ≡ some r → (namesOf r ≡ es) × (cost r ≡ c) × (orZero (settingOf terms r) ≡ σ))
+      → (v .ending ≡ some foundRoute) × ((r : List Belt) → v .state .best ≡ some r → (indicesOf r ≡ es) × (cost r ≡ c) × (orZero (settingOf terms r) ≡ σ))
   ended-route es c σ n h = go (v .ending) h
     where
       Same : List Belt → Type 0
-      Same r = (namesOf r ≡ es) × (cost r ≡ c) × (orZero (settingOf terms r) ≡ σ)
+      Same r = (indicesOf r ≡ es) × (cost r ≡ c) × (orZero (settingOf terms r) ≡ σ)
 
-      parts : (m : ℕ) (r : List Belt) → route (namesOf r) (cost r) (orZero (settingOf terms r)) m ≡ route es c σ n → Same r
+      parts : (m : ℕ) (r : List Belt) → route (indicesOf r) (cost r) (orZero (settingOf terms r)) m ≡ route es c σ n → Same r
       parts m r q = (cc, cc, cc)
 
       ending : (m : ℕ) (best : Option (List Belt)) (e : Ending) → endingOf terms m best e ≡ route es c σ n
@@ -165,7 +165,7 @@ module _ (k : Request) (fine : searchRefusal k ≡ 0) where
       let (names, costs, setting) = same r best in
       record {
         belts = r;
-        names = names;
+        indices = names;
         permitted = permitted;
         costs = costs;
         setting = permitted-lowest terms r (permitted .1) ∙ ap {B = Option ℕ} some setting;
@@ -239,7 +239,7 @@ module _ (k : Request) (fine : searchRefusal k ≡ 0) where
       let best = cheapest k fine es c σ n h in
       let r = best .belts in (
         map arcOf r,
-        numbers-names r ∙ best .names,
+        numbers-indices r ∙ best .indices,
         sym (cost-weight r) ∙ best .costs,
         record {
           feasible = permitted-claim (k .plan) (accepted k fine) (k .query .trip) r .0 (best .permitted);
@@ -282,7 +282,7 @@ module _ (k : Request) (bytes : Bytes (k .plan)) (out : List ℕ) (es : List ℕ
   short =
       let r = best .belts in
       let few = route-few (accepted k unrefused) (k .query .trip .s) (k .query .trip .t) r (within .s-from) (within .t-to) (best .permitted .0) in
-      let as-many : length es ≡ length r = ap length (sym (best .names)) ∙ length-map r (λ (e : Belt). e .name) in
+      let as-many : length es ≡ length r = ap length (sym (best .indices)) ∙ length-map r (λ (e : Belt). e .index) in
       omega (arith, few, as-many, length-sheet es c σ)
 
   after-is : after ≡ sheet ++ drop (length sheet) out
@@ -297,15 +297,15 @@ module _ (k : Request) (bytes : Bytes (k .plan)) (out : List ℕ) (es : List ℕ
   checks : sheetRefusal (caseOf (k .plan) (k .query .trip) (take (length sheet) after)) ≡ 0
   checks =
       subst (λ (b : List ℕ). sheetRefusal (caseOf (k .plan) (k .query .trip) b) ≡ 0)
-      ((λ i. sheetOf (best .names i) (best .costs i) σ) ∙ sym front)
+      ((λ i. sheetOf (best .indices i) (best .costs i) σ) ∙ sym front)
       (written-claim (tripIn (asked k)) (query-trip (asked k) (zero-query k unrefused)) bytes (best .belts) (best .permitted .0) σ (best .setting))
 
   reads : Reads sheet es c σ
   reads =
       let (low, working, first) = lowest-claim (termsOf (planOf (k .plan)) (k .query .trip)) (best .belts) .0 σ .0 (best .setting) in
       let trip = k .query .trip in
-      subst (λ (fs : List ℕ). Reads (sheetOf fs c σ) fs c σ) (best .names)
-      (subst (λ (d : ℕ). Reads (sheetOf (namesOf (best .belts)) d σ) (namesOf (best .belts)) d σ) (best .costs)
+      subst (λ (fs : List ℕ). Reads (sheetOf fs c σ) fs c σ) (best .indices)
+      (subst (λ (d : ℕ). Reads (sheetOf (indicesOf (best .belts)) d σ) (indicesOf (best .belts)) d σ) (best .costs)
       (reads-written (accepted k unrefused) bytes (trip .s) (trip .t) (within .s-from) (within .t-to) (best .belts) (best .permitted .0) σ low))
 
 pub accepted-claim : AcceptedClaim

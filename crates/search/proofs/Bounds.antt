@@ -6,7 +6,7 @@
 --                     if it costs as much as the bound, there is a relaxed route (equal); if not, or if no best is held, that route improves
 --                     on the best where the summary costs at most the bound (unequal); and one that does is the summary's (better)
 --   tells             this holds of the summary that relaxed_route answers
---   kept-in-size      a step leaves the length of `kept` as it was
+--   walked-in-size    a step leaves the length of `kept` as it was
 --   held-few, held-back
 --                     where there is such a relaxed route it has at most maxSteps belts, and is read back whole from the array that its belts were stored in
 --   best-better       what becomes the best improves on it
@@ -31,18 +31,18 @@ use Rattle.route.specs.declared.path.Trip.{Trip}
 use Rattle.route.specs.declared.relax.Fixings.{Fixings}
 use Rattle.route.specs.declared.relax.Summary.{Summary}
 use Rattle.route.specs.Routes.{wrongEnds, cost, costLimit, lower}
-use Rattle.route.specs.Values.{Known, routeIn, firstBelts, subproblemIn, atMost, summaryAs, keptOf}
+use Rattle.route.specs.Values.{Known, routeIn, firstBelts, subproblemIn, atMost, summaryAs, walkedOf}
 use Rattle.route.specs.Laws.{Holdable}
 use Rattle.route.specs.Inner.{wayCost}
 use Rattle.route.proofs.ByName.{known-cheap, ends-junctions}
 use Rattle.route.proofs.Order.{first-ne}
-use Rattle.route.proofs.Bounded.{at-most-none, at-most-some, kept-size}
+use Rattle.route.proofs.Bounded.{at-most-none, at-most-some, walked-size}
 use Rattle.route.proofs.Answered.{answer-law}
 use Rattle.search.specs.declared.query.Query.{Query}
 use Rattle.search.specs.declared.state.Search.{Search}
 use Rattle.search.specs.declared.state.Judged.the-variants.{Best}
 use Rattle.search.specs.Search.{improves}
-use Rattle.search.specs.Values.{bestIn, boundOf, boundIn, newestOf, relaxedIn, keptBy, keptIn}
+use Rattle.search.specs.Values.{bestIn, boundOf, boundIn, newestOf, relaxedIn, walkedBy, walkedIn}
 use Rattle.search.specs.Inner.{heldAs, betterIn, judgedIn}
 
 -- ---- the bound
@@ -78,15 +78,15 @@ summed b k (some r) v low e = go (test (leb (cost r) k))
         let lost = at-most-none k (some r) more in
         inr (omega (arith, ap (λ (w : Summary). w .cost) (e ∙ ap (summaryAs b) lost)), λ q i. omega (arith, ap wayCost i, more))
 
-pub kept-in-size : (b : List ℕ) (q : Query) (v : Search) (room : List ℕ) → length (keptIn b q v room) ≡ length room
-kept-in-size b q v room = go (eqb (v .count) 0 || eqb (v .opened) (q .budget))
+pub walked-in-size : (b : List ℕ) (q : Query) (v : Search) (room : List ℕ) → length (walkedIn b q v room) ≡ length room
+walked-in-size b q v room = go (eqb (v .count) 0 || eqb (v .opened) (q .budget))
   where
     o : Option (List Belt)
     o = atMost (boundIn b v) (relaxedIn b (q .trip) (newestOf v))
 
-    go : (t : Bool) → length (keptBy t o room) ≡ length room
+    go : (t : Bool) → length (walkedBy t o room) ≡ length room
     go true = refl
-    go false = kept-size o room
+    go false = walked-size o room
 
 -- ---- whether it improves on the best
 
@@ -149,11 +149,11 @@ module _ {b : List ℕ} (ok : Accepted b) (bytes : Bytes b) (q : Trip) (ends : w
 
   module _ {k : ℕ} {v : Summary} (h : Held b k (relaxedIn b q f) v) where
     pub held-few : v .count ≤ maxSteps
-    held-few = omega (arith, ap (λ (w : Summary). w .count) (h .summary), claim (h .route) (h .is) .known .few, length-map (h .route) (λ (e : Belt). e .name))
+    held-few = omega (arith, ap (λ (w : Summary). w .count) (h .summary), claim (h .route) (h .is) .known .few, length-map (h .route) (λ (e : Belt). e .index))
 
-    pub held-back : (room : List ℕ) → length room ≡ maxSteps → firstBelts (v .count) (keptOf (atMost k (relaxedIn b q f)) room) ≡ heldAs (relaxedIn b q f)
+    pub held-back : (room : List ℕ) → length room ≡ maxSteps → firstBelts (v .count) (walkedOf (atMost k (relaxedIn b q f)) room) ≡ heldAs (relaxedIn b q f)
     held-back room size =
-        (λ i. firstBelts (h .summary i .count) (keptOf (h .within i) room)) ∙ claim (h .route) (h .is) .back room size ∙ sym (ap heldAs (h .is))
+        (λ i. firstBelts (h .summary i .count) (walkedOf (h .within i) room)) ∙ claim (h .route) (h .is) .back room size ∙ sym (ap heldAs (h .is))
 
 pub best-better : (b : List ℕ) (q : Query) (f : Fixings) (on : ℕ → Bool) (t : Bool) → judgedIn b q f on t ≡ Best → t ≡ true
 best-better b q f r true h = refl

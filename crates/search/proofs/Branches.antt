@@ -22,7 +22,7 @@ use native.Mathlib.Omega.{arith}
 use lib.ListN.{length}
 use lib.Dec.{eqb, ltb}
 use borrow.Author.Tests.{eqb-true, eq-eqb, not-true}
-use Rattle.plan.specs.Lists.{any, kept, keep, counted, count, mem}
+use Rattle.plan.specs.Lists.{any, keepBy, keep, countBy, count, mem}
 use Rattle.plan.specs.declared.read.Literal.{Literal}
 use Rattle.plan.specs.declared.read.Literal.the-variants.{OfBelt, OfMode}
 use Rattle.plan.specs.Plan.{Belt, Plan, planOf, names, inRule, named}
@@ -114,7 +114,7 @@ count-rest f [] = refl
 count-rest f (x ∷ xs) = go (f x) (count-rest f xs)
   where
     go : (t : Bool) → count f xs + length (keep (λ (n : ℕ). not (f n)) xs) ≡ length xs
-        → counted t (count f xs) + length (kept (not t) x (keep (λ (n : ℕ). not (f n)) xs)) ≡ suc (length xs)
+        → countBy t (count f xs) + length (keepBy (not t) x (keep (λ (n : ℕ). not (f n)) xs)) ≡ suc (length xs)
     go true h = omega arith
     go false h = omega arith
 
@@ -122,7 +122,7 @@ pub fixed-unfixed : (p : Plan) (x : Subproblem) → fixedCount p x + length (unf
 fixed-unfixed p x = count-rest (isFixed x) (named p)
 
 -- where a passes only if b does, to count both leaves the second ahead by as much as before
-both-counted : (d : ℕ) (a b : Bool) (m n : ℕ) → (a ≡ true → b ≡ true) → d + m ≤ n → d + counted a m ≤ counted b n
+both-counted : (d : ℕ) (a b : Bool) (m n : ℕ) → (a ≡ true → b ≡ true) → d + m ≤ n → d + countBy a m ≤ countBy b n
 both-counted d true true m n h l = omega arith
 both-counted d true false m n h l = absurd (never (h refl) refl)
 both-counted d false true m n h l = omega arith
@@ -144,7 +144,7 @@ module _ (f g : ℕ → Bool) where
   count-more [] h e m a b = absurd (List·Memᴰ·not-nil m)
   count-more (x ∷ xs) h e m a b = go (List·Memᴰ·cases-cons m) (λ k. count-more xs (λ n i. h n (List·Memᴰ·tail i)) e k a b)
     where
-      here : (s t : Bool) → s ≡ false → t ≡ true → 0 + count f xs ≤ count g xs → 1 + counted s (count f xs) ≤ counted t (count g xs)
+      here : (s t : Bool) → s ≡ false → t ≡ true → 0 + count f xs ≤ count g xs → 1 + countBy s (count f xs) ≤ countBy t (count g xs)
       here true t p q l = absurd (never refl p)
       here false false p q l = absurd (never q refl)
       here false true p q l = omega arith

@@ -36,10 +36,10 @@ use Rattle.plan.specs.declared.read.Literal.{Literal}
 use Rattle.plan.specs.declared.read.Literal.the-variants.{OfBelt, OfMode}
 use Rattle.plan.specs.declared.named.Place.the-variants.{At}
 use Rattle.plan.specs.Bounds.{maxNamed, maxRecords}
-use Rattle.plan.specs.Lists.{counted, count, mem, run}
+use Rattle.plan.specs.Lists.{countBy, count, mem, iota}
 use Rattle.plan.specs.Plan.{planOf, literalAt, ruleAt, named, inRule, placeOf, placesOf, placeIn}
 use Rattle.plan.specs.Reading.{Accepted, IsRule, IsLiteral, firstRule, nextRule, firstLiteral, nextLiteral, rulesFrom, literalsFrom}
-use Rattle.plan.proofs.Lists.{test, alike, length-run, getD-run, map-run}
+use Rattle.plan.proofs.Lists.{test, alike, length-iota, getD-iota, map-iota}
 use Rattle.plan.proofs.Counts.{count-few}
 use Rattle.plan.proofs.Rising.{Rises}
 use Rattle.plan.proofs.Naming.{named-rises}
@@ -148,34 +148,34 @@ module _ {b : List ℕ} (ok : Accepted b) {places : List ℕ} where
 module _ (on : ℕ → Bool) (xs : List ℕ) where
   -- the count at place i, once the places below k are looked at; and an array of them
   abbrev seen : ℕ → ℕ → ℕ
-  seen k i = counted (ltb i k && on i) (getD xs i 0)
+  seen k i = countBy (ltb i k && on i) (getD xs i 0)
 
   abbrev seenTo : ℕ → ℕ → List ℕ
-  seenTo size k = map (seen k) (run 0 size)
+  seenTo size k = map (seen k) (iota 0 size)
 
   -- another place than k stays as it is when k is looked at
   seen-apart : (k i : ℕ) → (i ≡ k → ⊥) → seen k i ≡ seen (k + 1) i
   seen-apart k i d =
       let same : ltb i k ≡ ltb i (k + 1) =
       alike (ltb i k) (ltb i (k + 1)) (λ t. lt-ltb i (k + 1) (omega (arith, ltb-true i k t))) (λ t. lt-ltb i k (omega (arith, ltb-true i (k + 1) t, d))) in
-      ap (λ (t : Bool). counted (t && on i) (getD xs i 0)) same
+      ap (λ (t : Bool). countBy (t && on i) (getD xs i 0)) same
 
   -- a place that is not looked at has its old count, and one that is has one more if it passes
   seen-old : (k i : ℕ) → k ≤ i → seen k i ≡ getD xs i 0
-  seen-old k i l = ap (λ (t : Bool). counted (t && on i) (getD xs i 0)) (le-ltb i k l)
+  seen-old k i l = ap (λ (t : Bool). countBy (t && on i) (getD xs i 0)) (le-ltb i k l)
 
-  seen-new : (k i : ℕ) → i < k → (t : Bool) → on i ≡ t → seen k i ≡ counted t (getD xs i 0)
-  seen-new k i l t q = λ j. counted (lt-ltb i k l j && q j) (getD xs i 0)
+  seen-new : (k i : ℕ) → i < k → (t : Bool) → on i ≡ t → seen k i ≡ countBy t (getD xs i 0)
+  seen-new k i l t q = λ j. countBy (lt-ltb i k l j && q j) (getD xs i 0)
 
   seen-at : (size k i : ℕ) → i < size → getD (seenTo size k) i 0 ≡ seen k i
-  seen-at size k i l = let z : 0 + i ≡ i = omega arith in getD-run (seen k) 0 size i 0 l ∙ ap (seen k) z
+  seen-at size k i l = let z : 0 + i ≡ i = omega arith in getD-iota (seen k) 0 size i 0 l ∙ ap (seen k) z
 
   length-seen : (size k : ℕ) → length (seenTo size k) ≡ size
-  length-seen size k = length-map (run 0 size) (seen k) ∙ length-run 0 size
+  length-seen size k = length-map (iota 0 size) (seen k) ∙ length-iota 0 size
 
   -- an array is of that form where it has the counts
   is-seen : (size k : ℕ) (ys : List ℕ) → length ys ≡ size → ((i : ℕ) → i < size → getD ys i 0 ≡ seen k i) → ys ≡ seenTo size k
-  is-seen size k ys e h = map-run (seen k) 0 size 0 ys e (λ i l. let z : i ≡ 0 + i = omega arith in h i l ∙ ap (seen k) z)
+  is-seen size k ys e h = map-iota (seen k) 0 size 0 ys e (λ i l. let z : i ≡ 0 + i = omega arith in h i l ∙ ap (seen k) z)
 
   seen-none : (size : ℕ) → length xs ≡ size → xs ≡ seenTo size 0
   seen-none size e = is-seen size 0 xs e (λ i l. sym (seen-old 0 i (omega arith)))
@@ -238,7 +238,7 @@ mapped-at f (x ∷ xs) zero l = refl
 mapped-at f (x ∷ xs) (suc k) l = mapped-at f xs k (omega arith)
 
 -- one more on either side
-counted-sum : (t : Bool) (m n : ℕ) → counted t m + n ≡ m + counted t n
+counted-sum : (t : Bool) (m n : ℕ) → countBy t m + n ≡ m + countBy t n
 counted-sum true m n = omega arith
 counted-sum false m n = refl
 
@@ -342,7 +342,7 @@ module _ {b : List ℕ} (ok : Accepted b) where
             let x = getD xs k 0 in
             let t = inRule (getD ns k 0) (ruleAt b r) in
             let rest = inRules b k (rulesFrom b (nextRule b r)) in
-            let now : getD ys k 0 ≡ counted t x =
+            let now : getD ys k 0 ≡ countBy t x =
             ap (λ (zs : List ℕ). getD zs k 0) w
             ∙ seen-at (on m) xs maxNamed (length ns) k (omega (arith, named-few ok))
             ∙ seen-new (on m) xs (length ns) k l t (has k l) in

@@ -26,7 +26,7 @@ use native.Mathlib.Omega.{arith}
 use lib.ListN.{length}
 use lib.Dec.{eqb}
 use borrow.Author.Tests.{eq-eqb, ne-eqb}
-use Rattle.plan.specs.Plan.{Belt, planOf, namesOf, named}
+use Rattle.plan.specs.Plan.{Belt, planOf, indicesOf, named}
 use Rattle.plan.specs.Reading.{Accepted, Bytes}
 use Rattle.route.specs.declared.path.Route.{Route}
 use Rattle.route.specs.declared.relax.Fixings.{Fixings}
@@ -59,11 +59,11 @@ pub record OnRoute (b : List ℕ) (m : ℕ) (r : Route) : Type 0 where
 
 pub answered : {b : List ℕ} → Accepted b → Bytes b → (s t : ℕ) → wrongEnds (planOf b) s t ≡ false → (x : Subproblem) (r : List Belt)
     → relaxed (planOf b) s t x ≡ some r
-    → OnRoute b (maskOf b (namesOf r)) (routeOf r) × (routeOf r ≡ packed (idsOf (routeOf r))) × (routeIn b (routeOf r) ≡ r)
+    → OnRoute b (maskOf b (indicesOf r)) (routeOf r) × (routeOf r ≡ packed (idsOf (routeOf r))) × (routeIn b (routeOf r) ≡ r)
 answered {b} ok bytes s t ends x r e =
     let inside = ends-junctions (planOf b) s t ends in
     let holds = answer-law b ok bytes s t (inside .0) (inside .3) x r e in
-    (record { known = holds .known; mask = ap (maskOf b) (sym (holds .names)) }, ap packed (sym (holds .names)), holds .same)
+    (record { known = holds .known; mask = ap (maskOf b) (sym (holds .indices)) }, ap packed (sym (holds .indices)), holds .same)
 
 -- ---- steps 3 to 6
 

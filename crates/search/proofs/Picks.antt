@@ -31,9 +31,9 @@ use lib.ListN.{length, getD}
 use lib.Dec.{ltb}
 use borrow.Author.Tests.{lt-ltb, le-ltb}
 use Rattle.plan.specs.declared.named.Place.the-variants.{At, Unnamed}
-use Rattle.plan.specs.Lists.{keep, mem, run, upto}
+use Rattle.plan.specs.Lists.{keep, mem, iota, upto}
 use Rattle.plan.specs.Plan.{Plan, planOf, named}
-use Rattle.plan.proofs.Lists.{both, keep-in, map-run, upto-in, keep-cong, keep-map}
+use Rattle.plan.proofs.Lists.{both, keep-in, map-iota, upto-in, keep-cong, keep-map}
 use Rattle.plan.proofs.Counts.{keep-first, keep-rest, keep-done}
 use Rattle.plan.proofs.Rising.{Rises}
 use Rattle.plan.proofs.Naming.{named-rises}
@@ -191,7 +191,7 @@ module _ (ns : List ℕ) where
   by-place : ns ≡ map (belt ns) (upto 0 (length ns))
   by-place =
       let e : length ns ≡ length ns - 0 = omega arith in
-      map-run (belt ns) 0 (length ns) 0 ns refl (λ i l. let z : i ≡ 0 + i = omega arith in ap (belt ns) z) ∙ ap (λ (n : ℕ). map (belt ns) (run 0 n)) e
+      map-iota (belt ns) 0 (length ns) 0 ns refl (λ i l. let z : i ≡ 0 + i = omega arith in ap (belt ns) z) ∙ ap (λ (n : ℕ). map (belt ns) (iota 0 n)) e
 
   keep-belts : (f g : ℕ → Bool) (ks : List ℕ) → Inside ns ks → ((k : ℕ) → k < length ns → f (belt ns k) ≡ g k)
       → keep f (map (belt ns) ks) ≡ map (belt ns) (keep g ks)

@@ -33,7 +33,7 @@ use Rattle.route.specs.Permission.{Terms, planTerms, termsOf}
 use Rattle.route.specs.Sheets.{sheetOf}
 use Rattle.route.specs.Refusals.{tripLines}
 use Rattle.route.specs.Values.{idsOf, Known, routeIn}
-use Rattle.route.proofs.ByName.{known-names}
+use Rattle.route.proofs.ByName.{known-indices}
 use Rattle.search.specs.declared.state.Search.{Search}
 use Rattle.search.specs.declared.state.Stepped.{Stepped}
 use Rattle.search.specs.declared.state.Ending as code
@@ -54,7 +54,7 @@ pub written-best : {b : List ℕ} → Accepted b → (v : Search) → Known b (v
     → Told (reply 0 (v .opened) size) before after (bestOf b v)
 written-best {b} ok v k c σ size before after ec eσ es ea =
     let ids = idsOf (v .best) in
-    let same : route ids c σ (v .opened) ≡ bestOf b v = λ i. route (sym (known-names ok (v .best) k) i) (ec i) (eσ i) (v .opened) in
+    let same : route ids c σ (v .opened) ≡ bestOf b v = λ i. route (sym (known-indices ok (v .best) k) i) (ec i) (eσ i) (v .opened) in
     subst (Told (reply 0 (v .opened) size) before after) same
     (ap (reply 0 (v .opened)) es, ea ∙ ap (λ (n : ℕ). sheetOf ids c σ ++ drop n before) es)
 

@@ -20,7 +20,7 @@ use lib.ListN.{length}
 use lib.Dec.{eqb}
 use borrow.Author.Tests.{not-true}
 use Rattle.plan.specs.Lists.{keep, mem}
-use Rattle.plan.specs.Plan.{Belt, Plan, planOf, namesOf, named}
+use Rattle.plan.specs.Plan.{Belt, Plan, planOf, indicesOf, named}
 use Rattle.plan.specs.Claims.{Unbroken}
 use Rattle.plan.specs.Reading.{Accepted}
 use Rattle.plan.proofs.Lists.{never, each, keep-in, in-mem}
@@ -103,7 +103,7 @@ append-once (x ∷ xs) ys a b apart = (here, append-once xs ys (a .1) b (λ e m.
 -- the named belts of a plan with the belts of accepted bytes rise
 named-rise : (p : Plan) {b : List ℕ} → Accepted b → p .belts ≡ planOf b .belts → Rises (named p)
 unfolding named
-named-rise p ok same = keep-rises _ (subst Rises (sym (ap namesOf same)) (belts-rise ok))
+named-rise p ok same = keep-rises _ (subst Rises (sym (ap indicesOf same)) (belts-rise ok))
 
 -- ---- what the waiting ones fix
 

@@ -2,7 +2,7 @@
 --
 --   valid-claim   this as it is claimed (ValidClaim)
 --
--- A mask over the named belts is told by the belts that it fixes, the best by the names of its belts, and what is not in use is 0.
+-- A mask over the named belts is told by the belts that it fixes, the best by the indices of its belts, and what is not in use is 0.
 -- Assumes nothing.
 use mathlib.Core.Path.{_≡_, refl, sym, _∙_, ap}
 use mathlib.Core.Logic.{_⊎_, inl, inr}
@@ -16,7 +16,7 @@ use lib.Seq.{ext-getD}
 use lib.Dec.{eqb, ltb}
 use borrow.Author.Tests.{eqb-true, eqb-false, ltb-true, ltb-false}
 use Rattle.plan.specs.Lists.{mem}
-use Rattle.plan.specs.Plan.{Belt, planOf, namesOf, named}
+use Rattle.plan.specs.Plan.{Belt, planOf, indicesOf, named}
 use Rattle.plan.specs.Reading.{Accepted}
 use Rattle.plan.proofs.Lists.{test}
 use Rattle.plan.proofs.Naming.{named-rises}
@@ -24,7 +24,7 @@ use Rattle.route.specs.declared.path.Route.{Route}
 use Rattle.route.specs.declared.relax.Fixings.{Fixings}
 use Rattle.route.specs.Subproblems.{Subproblem}
 use Rattle.route.specs.Values.{idsOf, packed, Known, routeIn, fixedIn, OfNamed, subproblemIn}
-use Rattle.route.proofs.ByName.{known-names}
+use Rattle.route.proofs.ByName.{known-indices}
 use Rattle.route.proofs.Fixed.{fixed-mem, masks-equal}
 use Rattle.search.specs.declared.state.Search.{Search}
 use Rattle.search.specs.Search.{State, free}
@@ -90,9 +90,9 @@ abbrev beltsOr : Option (List Belt) → List Belt
 beltsOr none = []
 beltsOr (some r) = r
 
--- a Route of the plan has the names of its belts
-ids-of : {b : List ℕ} → Accepted b → (r : Route) → Known b r → idsOf r ≡ namesOf (routeIn b r)
-ids-of ok r k = sym (known-names ok r k)
+-- a Route of the plan has the indices of its belts
+ids-of : {b : List ℕ} → Accepted b → (r : Route) → Known b r → idsOf r ≡ indicesOf (routeIn b r)
+ids-of ok r k = sym (known-indices ok r k)
 
 same-best : {b : List ℕ} → Accepted b → (v w : Search) → Valid b v → Valid b w → v .found ≡ w .found → (t : Bool) → v .found ≡ t
     → bestIn b (v .found) (v .best) ≡ bestIn b (w .found) (w .best) → v .best ≡ w .best
@@ -100,7 +100,7 @@ same-best {b} ok v w valid also f true h e =
     let same : routeIn b (v .best) ≡ routeIn b (w .best) =
     ap (λ (t : Bool). beltsOr (bestIn b t (v .best))) (sym h) ∙ ap beltsOr e ∙ ap (λ (t : Bool). beltsOr (bestIn b t (w .best))) (sym f ∙ h) in
     valid .rest-zero
-    ∙ ap packed (ids-of ok (v .best) (valid .known) ∙ ap namesOf same ∙ sym (ids-of ok (w .best) (also .known)))
+    ∙ ap packed (ids-of ok (v .best) (valid .known) ∙ ap indicesOf same ∙ sym (ids-of ok (w .best) (also .known)))
     ∙ sym (also .rest-zero)
 same-best {b} ok v w valid also f false h e = valid .unheld h ∙ sym (also .unheld (sym f ∙ h))
 

@@ -31,7 +31,7 @@ use mathlib.Core.List.{List, [], _∷_, _++_, map}
 use lib.ListN.{length, drop}
 use lib.Dec.{leb, ltb}
 use Rattle.plan.specs.Bounds.{maxSheetBytes}
-use Rattle.plan.specs.Plan.{Belt, planOf, namesOf}
+use Rattle.plan.specs.Plan.{Belt, planOf, indicesOf}
 use Rattle.plan.specs.Refusals.{Line, about, firstBroken, refusalNumber}
 use Rattle.route.specs.Routes.{cost}
 use Rattle.route.specs.Permission.{Terms, termsOf}
@@ -102,7 +102,7 @@ orZero (some σ) = σ
 
 abbrev pub bestRoute : Terms → ℕ → Option (List Belt) → Outcome
 bestRoute terms opened none = nothing opened
-bestRoute terms opened (some r) = route (namesOf r) (cost r) (orZero (settingOf terms r)) opened
+bestRoute terms opened (some r) = route (indicesOf r) (cost r) (orZero (settingOf terms r)) opened
 
 -- spent hands out no route
 abbrev pub endingOf : Terms → ℕ → Option (List Belt) → Ending → Outcome

@@ -46,7 +46,7 @@ use mathlib.Core.List.{List, [], _∷_, _++_, map, List·Memᴰ}
 use lib.ListN.{length, getD, take, drop}
 use Rattle.plan.specs.Bounds.{maxSheetBytes}
 use Rattle.plan.specs.Lists.{any}
-use Rattle.plan.specs.Plan.{Belt, Plan, planOf, namesOf, inRule, named}
+use Rattle.plan.specs.Plan.{Belt, Plan, planOf, indicesOf, inRule, named}
 use Rattle.plan.specs.Limits.{Limits}
 use Rattle.plan.specs.Claims.{Unbroken, FirstIn}
 use Rattle.plan.specs.Reading.{Accepted, Bytes}
@@ -109,7 +109,7 @@ AcceptedClaim = (k : Request) → Bytes (k .plan) → (out : List ℕ) → lengt
 
 pub record Cheapest (p : Plan) (trip : Trip) (es : List ℕ) (c σ : ℕ) : Type 0 where
   pub belts : List Belt
-  pub names : namesOf belts ≡ es
+  pub indices : indicesOf belts ≡ es
   pub permitted : IsPermitted p trip belts
   pub costs : cost belts ≡ c
   pub setting : lowest (termsOf p trip) (passes belts) ≡ some σ

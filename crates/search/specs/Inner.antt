@@ -31,7 +31,7 @@ use Rattle.plan.specs.declared.named.Place.the-variants.{At, Unnamed}
 use Rattle.plan.specs.declared.read.Literal.{Literal}
 use Rattle.plan.specs.declared.read.Literal.the-variants.{OfBelt, OfMode}
 use Rattle.plan.specs.Bounds.{maxNamed}
-use Rattle.plan.specs.Lists.{counted, keep, upto}
+use Rattle.plan.specs.Lists.{countBy, keep, upto}
 use Rattle.plan.specs.Plan.{Belt, planOf, named}
 use Rattle.route.specs.declared.path.Route.{Route}
 use Rattle.route.specs.declared.relax.Fixings.{Fixings}
@@ -56,7 +56,7 @@ beltsIn (OfBelt e wanted ∷ ls) = e .0 ∷ beltsIn ls
 beltsIn (OfMode m wanted ∷ ls) = beltsIn ls
 
 abbrev pub withRule : List ℕ → ℕ → ℕ → List ℕ
-withRule xs n m = map (λ (k : ℕ). counted (ltb k n && inMask m (At k)) (getD xs k 0)) (upto 0 maxNamed)
+withRule xs n m = map (λ (k : ℕ). countBy (ltb k n && inMask m (At k)) (getD xs k 0)) (upto 0 maxNamed)
 
 abbrev pub unfixedAt : Fixings → ℕ → Bool
 unfixedAt f k = not (inMask (f .required) (At k) || inMask (f .forbidden) (At k))

@@ -21,7 +21,8 @@
 --   stepIn b q v        one step of the query q from the state that a Search stands for
 --   newestOf v          the masks of the newest subproblem that waits
 --   relaxedIn b q f     the relaxed route of the masks f for the trip q
---   keptIn b q v room   the array room after a step: if it opens a subproblem, with its relaxed route, if there is one within the bound (keptBy)
+--   walkedIn b q v array
+--                       the array after a step: if it opens a subproblem, with its relaxed route, if there is one within the bound (walkedBy)
 --   requestOf b q out   the request of a call
 --
 -- Assumes nothing.
@@ -36,14 +37,14 @@ use Rattle.plan.specs.declared.named.Place.{Place}
 use Rattle.plan.specs.declared.named.Place.the-variants.{Unnamed}
 use Rattle.plan.specs.Bounds.{maxNamed}
 use Rattle.plan.specs.Plan.{Belt, Plan, planOf, named, placeOf}
-use Rattle.plan.specs.Adjacency.{arcsIn, endsOf}
+use Rattle.plan.specs.Adjacency.{arcsIn, offsetsOf}
 use Rattle.plan.specs.Reading.{Accepted}
 use Rattle.route.specs.declared.path.Route.{Route}
 use Rattle.route.specs.declared.path.Trip.{Trip}
 use Rattle.route.specs.declared.relax.Fixings.{Fixings}
 use Rattle.route.specs.Routes.{wrongEnds, cost, costLimit}
 use Rattle.route.specs.Subproblems.{Subproblem, relaxed}
-use Rattle.route.specs.Values.{idsOf, packed, Known, routeIn, OfNamed, subproblemIn, namedPlaces, numbersOf, exitsOf, atMost, keptOf, Clauses}
+use Rattle.route.specs.Values.{idsOf, packed, Known, routeIn, OfNamed, subproblemIn, namedPlaces, numbersOf, exitsOf, atMost, walkedOf, Clauses}
 use Rattle.search.specs.declared.query.Query.{Query}
 use Rattle.search.specs.declared.pick.Counts.{Counts}
 use Rattle.search.specs.declared.state.Search.{Search}
@@ -117,11 +118,11 @@ pub record Valid (b : List ℕ) (v : Search) : Type 0 where
   pub rest-zero : v .best ≡ packed (idsOf (v .best))
   pub unheld : v .found ≡ false → v .best ≡ packed []
 
-pub record Ready (b : List ℕ) (places belts ends arcs exits clauses : List ℕ) (counts : Counts) (q : Query) : Type 0 where
+pub record Ready (b : List ℕ) (places belts offsets arcs exits clauses : List ℕ) (counts : Counts) (q : Query) : Type 0 where
   pub accepted : Accepted b
   pub placed : places ≡ namedPlaces b
   pub numbered : belts ≡ numbersOf (named (planOf b))
-  pub ended : ends ≡ endsOf (planOf b)
+  pub ended : offsets ≡ offsetsOf (planOf b)
   pub listed : arcs ≡ arcsIn (length arcs) (planOf b)
   pub left : exits ≡ exitsOf b
   pub ruled : Clauses b clauses
@@ -135,12 +136,12 @@ abbrev pub relaxedIn : List ℕ → Trip → Fixings → Option (List Belt)
 relaxedIn b q f = relaxed (planOf b) (q .s) (q .t) (subproblemIn b f)
 
 -- by whether the step ends the search
-abbrev pub keptBy : Bool → Option (List Belt) → List ℕ → List ℕ
-keptBy true o room = room
-keptBy false o room = keptOf o room
+abbrev pub walkedBy : Bool → Option (List Belt) → List ℕ → List ℕ
+walkedBy true o array = array
+walkedBy false o array = walkedOf o array
 
-abbrev pub keptIn : List ℕ → Query → Search → List ℕ → List ℕ
-keptIn b q v room = keptBy (eqb (v .count) 0 || eqb (v .opened) (q .budget)) (atMost (boundIn b v) (relaxedIn b (q .trip) (newestOf v))) room
+abbrev pub walkedIn : List ℕ → Query → Search → List ℕ → List ℕ
+walkedIn b q v array = walkedBy (eqb (v .count) 0 || eqb (v .opened) (q .budget)) (atMost (boundIn b v) (relaxedIn b (q .trip) (newestOf v))) array
 
 abbrev pub stepIn : List ℕ → Query → Search → Turn
 stepIn b q v = step (problemIn b q) (q .budget) (stateIn b v)

@@ -29,7 +29,7 @@ ghost use Prim.Native.Nat.{_≤_};
 ghost use lib.ListN.{length};
 ghost use Rattle.plan.specs.Bounds.{maxSheetBytes};
 ghost use Rattle.plan.specs.Plan.{planOf, named, listed};
-ghost use Rattle.plan.specs.Adjacency.{arcsIn, endsOf};
+ghost use Rattle.plan.specs.Adjacency.{arcsIn, offsetsOf};
 ghost use Rattle.plan.specs.Reading.{Accepted};
 ghost use Rattle.route.specs.Routes.{wrongEnds};
 ghost use Rattle.route.specs.Values.{settingIn, namedPlaces, Clauses};
@@ -106,7 +106,7 @@ fn find_over(
     query: Query,
     list: Named,
     places: &[u8; MAX_RECORDS],
-    ends: &[u16; JUNCTION_PLACES],
+    offsets: &[u16; JUNCTION_PLACES],
     arcs: &[u64],
     clauses: &[u32],
     out: &mut [u8],
@@ -117,20 +117,20 @@ fn find_over(
         × (list .count ≡ length (named (planOf (now p))))
         × (list .belts ≡ listed (named (planOf (now p))))
         × (now places ≡ namedPlaces (now p))
-        × (now ends ≡ endsOf (planOf (now p)))
+        × (now offsets ≡ offsetsOf (planOf (now p)))
         × (now arcs ≡ arcsIn (length (now arcs)) (planOf (now p)))
         × Clauses (now p) (now clauses) ⌝ }
     ensures { λ v. ⌜ Told (replyOf v) (now (out .entry)) (now (out .exit)) (unlessRefused 0 (requestOf (now (p .entry)) query (now (out .entry)))) ⌝ }
 {
     let belts = relax::numbers(p, list);
     let mut exits = [0u64; JUNCTION_PLACES];
-    relax::exits(p, places, ends, arcs, &mut exits);
+    relax::exits(p, places, offsets, arcs, &mut exits);
     let counts = pick::rule_counts(p, places, list.count);
     let stepped = run::run(
         p,
         places,
         &belts,
-        ends,
+        offsets,
         arcs,
         &exits,
         clauses,
@@ -159,16 +159,16 @@ fn find_route(p: &[u8], query: Query, out: &mut [u8]) -> Answer
     named::places_among(p, list, &mut places);
     if p.len() <= SMALL_PLAN_BYTES {
         let mut arcs = [0u64; SMALL_PLAN];
-        let ends = adjacency::decode(p, &mut arcs);
+        let offsets = adjacency::decode(p, &mut arcs);
         let mut clauses = [0u32; SMALL_PLAN];
         clauses::decode(p, &places, &mut clauses);
-        return find_over(p, query, list, &places, &ends, &arcs, &clauses, out);
+        return find_over(p, query, list, &places, &offsets, &arcs, &clauses, out);
     }
     let mut arcs = [0u64; MAX_RECORDS];
-    let ends = adjacency::decode(p, &mut arcs);
+    let offsets = adjacency::decode(p, &mut arcs);
     let mut clauses = [0u32; MAX_RECORDS];
     clauses::decode(p, &places, &mut clauses);
-    find_over(p, query, list, &places, &ends, &arcs, &clauses, out)
+    find_over(p, query, list, &places, &offsets, &arcs, &clauses, out)
 }
 
 // Answers a query. On a route its sheet is written to the start of the out buffer; else no byte of it changes.
@@ -192,7 +192,7 @@ pub fn search(p: &[u8], query: Query, out: &mut [u8]) -> Answer
 }
 
 // An answer in numbers.
-pub fn numbers(answer: Answer) -> Reply
+pub fn reply_of(answer: Answer) -> Reply
     ensures { λ v. ⌜ v ≡ replyOf answer ⌝ }
 {
     match answer {

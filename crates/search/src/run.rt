@@ -15,25 +15,25 @@ ghost use Rattle.search.specs.Answers.{problemIn};
 ghost use Rattle.search.specs.Values.{turnIn, Valid, boundIn, Ready};
 
 // Makes steps until one ends the search. The tables are those of `step`. What a step hands back stays in one struct: to move the Search out of it
-// would copy it. All steps share the scratch arrays `ways` and `kept`.
+// would copy it. All steps share the scratch arrays `ways` and `walked`.
 pub fn run(
     p: &[u8],
     places: &[u8; MAX_RECORDS],
     belts: &[u16; MAX_NAMED],
-    ends: &[u16; JUNCTION_PLACES],
+    offsets: &[u16; JUNCTION_PLACES],
     arcs: &[u64],
     exits: &[u64; JUNCTION_PLACES],
     clauses: &[u32],
     counts: Counts,
     query: Query,
 ) -> Stepped
-    requires { ⌜ Ready (now p) (now places) (now belts) (now ends) (now arcs) (now exits) (now clauses) counts query ⌝ }
+    requires { ⌜ Ready (now p) (now places) (now belts) (now offsets) (now arcs) (now exits) (now clauses) counts query ⌝ }
     ensures { λ v. ⌜ (turnIn (now (p .entry)) v ≡ run (problemIn (now (p .entry)) query) (query .budget))
         × Valid (now (p .entry)) (v .search)
         × (v .bound ≡ boundIn (now (p .entry)) (v .search)) ⌝ }
 {
     let mut ways = [0u64; JUNCTION_PLACES];
-    let mut kept = [0u16; MAX_STEPS];
+    let mut walked = [0u16; MAX_STEPS];
     let mut stepped = Stepped {
         search: state::begin(),
         ending: Ending::GoesOn,
@@ -47,7 +47,7 @@ pub fn run(
                     p,
                     places,
                     belts,
-                    ends,
+                    offsets,
                     arcs,
                     exits,
                     clauses,
@@ -55,7 +55,7 @@ pub fn run(
                     query,
                     stepped.bound,
                     &mut ways,
-                    &mut kept,
+                    &mut walked,
                 );
             }
             Ending::Found => return stepped,

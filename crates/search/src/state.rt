@@ -23,7 +23,7 @@ ghost use Rattle.plan.specs.Bounds.{junctionPlaces, maxSteps};
 ghost use Rattle.plan.specs.declared.named.Place.the-variants.{At};
 ghost use Rattle.plan.specs.Reading.{Accepted};
 ghost use Rattle.route.specs.Values.{OfNamed, hasBelt, Clauses};
-ghost use Rattle.search.specs.Values.{countsOf, turnIn, Valid, boundIn, firstSearch, noFixings, Ready, stepIn, keptIn};
+ghost use Rattle.search.specs.Values.{countsOf, turnIn, Valid, boundIn, firstSearch, noFixings, Ready, stepIn, walkedIn};
 ghost use Rattle.search.specs.Inner.{endedAs, childAt, judgedIn};
 
 // How many subproblems can wait at once: each fixes as many named belts as there are older ones, or more.
@@ -164,15 +164,15 @@ impl Search {
     // One step. The tables are made once for all steps: the places of the plan's named belts (plan::named::named_places) and their indices
     // (route::relax::numbers), its adjacency array (plan::adjacency::decode), the named belts that leave each junction (route::relax::exits), its
     // clauses (route::clauses::decode) and the counts (pick::rule_counts). `bound` is that of the search, as the last step handed it back. `ways` and
-    // `kept` are scratch arrays: `ways` is all 0 before and after; `kept` has the relaxed route of the opened subproblem, if there is one within the
+    // `walked` are scratch arrays: `ways` is all 0 before and after; `walked` has the relaxed route of the opened subproblem, if there is one within the
     // bound, over what it had before. Only this function writes to the Search: passing the struct (1.3 KB) to a helper by value would copy it there
-    // and back. The relaxed route is read from `kept` only if its cost equals the bound, or if it becomes the best.
+    // and back. The relaxed route is read from `walked` only if its cost equals the bound, or if it becomes the best.
     pub fn step(
         mut self,
         p: &[u8],
         places: &[u8; MAX_RECORDS],
         belts: &[u16; MAX_NAMED],
-        ends: &[u16; JUNCTION_PLACES],
+        offsets: &[u16; JUNCTION_PLACES],
         arcs: &[u64],
         exits: &[u64; JUNCTION_PLACES],
         clauses: &[u32],
@@ -180,19 +180,19 @@ impl Search {
         query: Query,
         mut bound: u64,
         ways: &mut [u64; JUNCTION_PLACES],
-        kept: &mut [u16; MAX_STEPS],
+        walked: &mut [u16; MAX_STEPS],
     ) -> Stepped
-        requires { ⌜ Ready (now p) (now places) (now belts) (now ends) (now arcs) (now exits) (now clauses) counts query
+        requires { ⌜ Ready (now p) (now places) (now belts) (now offsets) (now arcs) (now exits) (now clauses) counts query
             × Valid (now p) self
             × (self .opened ≤ query .budget)
             × (bound ≡ boundIn (now p) self)
             × (now ways ≡ replicate junctionPlaces 0)
-            × (length (now kept) ≡ maxSteps) ⌝ }
+            × (length (now walked) ≡ maxSteps) ⌝ }
         ensures { λ v. ⌜ (turnIn (now (p .entry)) v ≡ stepIn (now (p .entry)) query self)
             × Valid (now (p .entry)) (v .search)
             × (v .bound ≡ boundIn (now (p .entry)) (v .search))
             × (now (ways .exit) ≡ now (ways .entry))
-            × (now (kept .exit) ≡ keptIn (now (p .entry)) query self (now (kept .entry))) ⌝ }
+            × (now (walked .exit) ≡ walkedIn (now (p .entry)) query self (now (walked .entry))) ⌝ }
     {
         if self.count == 0 || self.opened == query.budget {
             return Stepped {
@@ -214,24 +214,24 @@ impl Search {
             p,
             places,
             belts,
-            ends,
+            offsets,
             arcs,
             exits,
             trip,
             fixings,
             bound,
             ways,
-            kept,
+            walked,
         );
         let mut better = summary.cost <= bound;
         if self.found && summary.cost == bound {
-            better = path::before(p, path::of_belts(kept, summary.count), self.best);
+            better = path::before(p, path::of_belts(walked, summary.count), self.best);
         }
         let judged = judge(p, clauses, counts, query, fixings, summary.named, better);
         match judged {
             Judged::Drop => {}
             Judged::Best => {
-                let route = path::of_belts(kept, summary.count);
+                let route = path::of_belts(walked, summary.count);
                 self.best = route;
                 self.found = true;
                 bound = summary.cost;

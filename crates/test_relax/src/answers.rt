@@ -78,9 +78,9 @@ fn within(mask: Mask, end: usize) -> bool
     false
 }
 
-// Prints a summary, and the belts of its route, whose numbers are in `kept`.
-fn print_relaxed(summary: Summary, kept: &[u16; MAX_STEPS])
-    requires { ⌜ length (now kept) ≡ maxSteps ⌝ }
+// Prints a summary, and the belts of its route, whose numbers are in `walked`.
+fn print_relaxed(summary: Summary, walked: &[u16; MAX_STEPS])
+    requires { ⌜ length (now walked) ≡ maxSteps ⌝ }
 {
     if route::relax::UNBOUNDED < summary.cost {
         io::write_all(1, b" none");
@@ -88,7 +88,7 @@ fn print_relaxed(summary: Summary, kept: &[u16; MAX_STEPS])
     }
     print_number(b" ", summary.cost);
     if summary.count <= MAX_STEPS {
-        listing::print_belts(route::path::of_belts(kept, summary.count));
+        listing::print_belts(route::path::of_belts(walked, summary.count));
     }
 }
 
@@ -100,26 +100,26 @@ fn print_over(p: &[u8], places: &[u8; MAX_RECORDS], trip: Trip, fixings: Fixings
         × OfNamed (now p) (fixings .required) ⌝ }
 {
     let mut arcs = [0u64; MAX_RECORDS];
-    let ends = plan::adjacency::decode(p, &mut arcs);
+    let offsets = plan::adjacency::decode(p, &mut arcs);
     let mut exits = [0u64; JUNCTION_PLACES];
-    route::relax::exits(p, places, &ends, &arcs, &mut exits);
+    route::relax::exits(p, places, &offsets, &arcs, &mut exits);
     let belts = route::relax::numbers(p, plan::named::named_belts(p));
     let mut ways = [0u64; JUNCTION_PLACES];
-    let mut kept = [0u16; MAX_STEPS];
+    let mut walked = [0u16; MAX_STEPS];
     let summary = route::relax::relaxed_route(
         p,
         places,
         &belts,
-        &ends,
+        &offsets,
         &arcs,
         &exits,
         trip,
         fixings,
         route::relax::UNBOUNDED,
         &mut ways,
-        &mut kept,
+        &mut walked,
     );
-    print_relaxed(summary, &kept);
+    print_relaxed(summary, &walked);
 }
 
 // The relaxed route between two junctions of an accepted plan. The places of named belts are below their count, so no mask of theirs goes

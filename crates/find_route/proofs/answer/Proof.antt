@@ -20,8 +20,8 @@ slice-aggregate-search c = search needs
 search-requires : tie.Need-search-requires
 search-requires c κs = search needs
 
-numbers-requires : tie.Need-numbers-requires
-numbers-requires c κs = search needs
+reply-of-requires : tie.Need-reply-of-requires
+reply-of-requires c κs = search needs
 
 -- what was written to the buffer has the length that is told
 told-fits : (v : Reply) (before after : List ℕ) (o : Outcome) → Told v before after o → v .size ≤ length after
@@ -34,12 +34,12 @@ told-fits v before after o told = go o (ap (λ (r : Reply). r .size) (told .0)) 
     go (spent n) e l = omega arith
     go (paused n) e l = omega arith
 
-fits : (c : tie.After-numbers) → c .numbers .result .size ≤ length (c .before .before .search .last .1 .1 .0)
+fits : (c : tie.After-reply-of) → c .reply-of .result .size ≤ length (c .before .before .search .last .1 .1 .0)
 fits c =
     let asked = c .before .before in
     let args = asked .before .before .before .before .args in
     let blank : List ℕ = replicate maxSheetBytes 0 in
-    subst (λ (r : Reply). r .size ≤ length (asked .search .last .1 .1 .0)) (sym (c .numbers .ensures))
+    subst (λ (r : Reply). r .size ≤ length (asked .search .last .1 .1 .0)) (sym (c .reply-of .ensures))
     (told-fits (replyOf (asked .search .result)) blank (asked .search .last .1 .1 .0) (outcome (requestOf (args .p .now) (args .query) blank))
     (asked .search .ensures))
 
@@ -88,7 +88,7 @@ answer-spec =
     (tie.spec
     slice-aggregate-search
     search-requires
-    numbers-requires
+    reply-of-requires
     array-share-prefix-out
     slice-aggregate-write
     write-requires

@@ -8,8 +8,8 @@ use Rattle.planner.proofs.planner_search.Tie as tie
 search-requires : tie.Need-search-requires
 search-requires c κs = search needs
 
-numbers-requires : tie.Need-numbers-requires
-numbers-requires c κs = search needs
+reply-of-requires : tie.Need-reply-of-requires
+reply-of-requires c κs = search needs
 
 cast-t10 : tie.Need-cast-t10
 cast-t10 c = search needs
@@ -19,9 +19,9 @@ same-length c = search needs
 
 returns : tie.Need-returns
 returns c =
-    let numbers = c .before .numbers in
+    let numbers = c .before .reply-of in
     let told = c .before .before .before .before .search .ensures in
     (ap toCaller (numbers .ensures ∙ told .0), told .1)
 
 pub planner-search-spec : {M : Type 1} → statement M
-planner-search-spec = tie.close (tie.spec search-requires numbers-requires cast-t10 same-length returns)
+planner-search-spec = tie.close (tie.spec search-requires reply-of-requires cast-t10 same-length returns)

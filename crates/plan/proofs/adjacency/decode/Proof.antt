@@ -8,18 +8,18 @@ use lib.ListN.{length, take, drop, set}
 use borrow.Author.Needs.{needs}
 use Rattle.plan.specs.Bounds.{maxJunctions}
 use Rattle.plan.specs.Plan.{planOf, leaving}
-use Rattle.plan.specs.Adjacency.{arcOf, inOrder, arcsIn, endsOf}
+use Rattle.plan.specs.Adjacency.{wordOf, inOrder, arcsIn, offsetsOf}
 use Rattle.plan.proofs.Reading.{plan-sizes}
-use Rattle.plan.proofs.Arcs.{order-few, order-fit, order-next, arcsTo, endsTo, length-arcs, arcs-none, ends-none, arcs-more, ends-more, arcs-all, ends-all}
+use Rattle.plan.proofs.Arcs.{order-few, order-fit, order-next, arcsTo, endsTo, length-arcs, arcs-none, ends-none, arcs-more, offsets-more, arcs-all, ends-all}
 use Rattle.plan.proofs.adjacency.decode.Statement.{statement}
 use Rattle.plan.proofs.adjacency.decode.Tie as tie
 
 abbrev Inv-loop : tie.InvT-loop
-Inv-loop p arcs₀ ends₀ last count₀ u₀ arcs ends count u =
-    (u ≤ last) × (count ≡ length (inOrder (planOf p) u)) × (ends ≡ endsTo (planOf p) u) × (arcs ≡ arcsTo (length arcs₀) (planOf p) u)
+Inv-loop p arcs₀ offsets₀ last count₀ u₀ arcs offsets count u =
+    (u ≤ last) × (count ≡ length (inOrder (planOf p) u)) × (offsets ≡ endsTo (planOf p) u) × (arcs ≡ arcsTo (length arcs₀) (planOf p) u)
 
 abbrev μ-loop : tie.MeasureT-loop
-μ-loop p arcs₀ ends₀ last count₀ u₀ arcs ends count u = last - u
+μ-loop p arcs₀ offsets₀ last count₀ u₀ arcs offsets count u = last - u
 
 junctions-requires : tie.Need-junctions-requires Inv-loop μ-loop
 junctions-requires c κs = search needs
@@ -70,14 +70,14 @@ counted : (c : tie.After-put-leaving Inv-loop μ-loop)
     → c .put-leaving .result ≡ length (inOrder (planOf (c .before .before .before .before .before .before .before .args .p .now)) (suc (c .before .before .before .loop .u)))
 counted c = c .put-leaving .ensures .0 ∙ next (c .before .before)
 
-cast-ends : tie.Need-cast-ends Inv-loop μ-loop
-cast-ends c = omega (arith, counted (c .before .before), order-few (c .before .before .before .before .before .before .before .before .before .pre .0) (suc (c .before .before .before .before .before .loop .u)))
+cast-offsets : tie.Need-cast-offsets Inv-loop μ-loop
+cast-offsets c = omega (arith, counted (c .before .before), order-few (c .before .before .before .before .before .before .before .before .before .pre .0) (suc (c .before .before .before .before .before .loop .u)))
 
-mul-ends : tie.Need-mul-ends Inv-loop μ-loop
-mul-ends c = omega (arith, few (c .before .before .before .before))
+mul-offsets : tie.Need-mul-offsets Inv-loop μ-loop
+mul-offsets c = omega (arith, few (c .before .before .before .before))
 
-array-write-ends : tie.Need-array-write-ends Inv-loop μ-loop
-array-write-ends c = omega (arith, few (c .before .before .before .before))
+array-write-offsets : tie.Need-array-write-offsets Inv-loop μ-loop
+array-write-offsets c = omega (arith, few (c .before .before .before .before))
 
 loop-less : tie.Need-loop-less Inv-loop μ-loop
 loop-less c = omega (arith, c .before .before .before .before .loop-test .taken)
@@ -94,9 +94,9 @@ loop-again c =
     let e = add-one u in (
       omega (arith, at .loop-test .taken),
       counted put ∙ sym (ap (λ (v : ℕ). length (inOrder p v)) e),
-      (λ i. set (loop .inv .2 i) (e i) (counted put i)) ∙ ends-more p u (few at) ∙ sym (ap (endsTo p) e),
+      (λ i. set (loop .inv .2 i) (e i) (counted put i)) ∙ offsets-more p u (few at) ∙ sym (ap (endsTo p) e),
       put .put-leaving .ensures .1
-          ∙ (λ i. take (loop .inv .1 i) (loop .inv .3 i) ++ map arcOf (leaving p (e i)) ++ drop (loop .inv .1 i + length (leaving p (e i))) (loop .inv .3 i))
+          ∙ (λ i. take (loop .inv .1 i) (loop .inv .3 i) ++ map wordOf (leaving p (e i)) ++ drop (loop .inv .1 i + length (leaving p (e i))) (loop .inv .3 i))
           ∙ arcs-more n p u
           ∙ sym (ap (arcsTo n p) e),
     )
@@ -111,9 +111,9 @@ returns c =
     let p = planOf (start .args .p .now) in
     let n = length (start .args .arcs .now) in
     let e : loop .u ≡ p .junctions = omega (arith, loop .inv .0, c .loop-test .left, c .before .before .junctions .ensures) in
-    let ends : loop .ends ≡ endsOf p = loop .inv .2 ∙ ap (endsTo p) e ∙ ends-all p in
+    let offsets : loop .offsets ≡ offsetsOf p = loop .inv .2 ∙ ap (endsTo p) e ∙ ends-all p in
     let arcs : loop .arcs ≡ arcsIn n p = loop .inv .3 ∙ ap (arcsTo n p) e ∙ arcs-all n p in
-    (ends, arcs)
+    (offsets, arcs)
 
 pub decode-spec : {M : Type 1} → statement M
 decode-spec =
@@ -125,9 +125,9 @@ decode-spec =
     loop-holds
     add-u
     put-leaving-requires
-    cast-ends
-    mul-ends
-    array-write-ends
+    cast-offsets
+    mul-offsets
+    array-write-offsets
     loop-less
     loop-again
     same-length

@@ -11,7 +11,7 @@ use borrow.Author.Needs.{needs}
 use Rattle.plan.specs.Bounds.{maxRecords, fieldLimit}
 use Rattle.plan.specs.Plan.{Belt, planOf, beltAt, leaving}
 use Rattle.plan.specs.Reading.{IsBelt, nextBelt, beltsFrom}
-use Rattle.plan.specs.Adjacency.{arcOf}
+use Rattle.plan.specs.Adjacency.{wordOf}
 use Rattle.plan.proofs.Reading.{field-low, leaving-from, belts-end, belts-next, first-belt-is, next-belt-is, belt-low}
 use Rattle.plan.proofs.adjacency.put_leaving.Statement.{statement}
 use Rattle.plan.proofs.adjacency.put_leaving.Tie as tie
@@ -20,7 +20,7 @@ abbrev Inv-loop : tie.InvT-loop
 Inv-loop p u from arcs₀ count₀ belt₀ arcs count belt =
     ((belt .0 ≡ 0 → ⊥) → IsBelt p (belt .0))
     × (count + length (beltsFrom p (belt .0)) ≡ from + length (leaving (planOf p) u))
-    × (sets arcs count (map arcOf (beltsFrom p (belt .0))) ≡ sets arcs₀ from (map arcOf (leaving (planOf p) u)))
+    × (sets arcs count (map wordOf (beltsFrom p (belt .0))) ≡ sets arcs₀ from (map wordOf (leaving (planOf p) u)))
     × (length arcs ≡ length arcs₀)
 
 abbrev μ-loop : tie.MeasureT-loop
@@ -39,7 +39,7 @@ loop-holds c =
     let all : beltsFrom p (c .first-belt .result .0) ≡ leaving (planOf p) (a .u) = ap (beltsFrom p) e ∙ sym (leaving-from (start .pre .0) (a .u) (start .pre .1) (start .pre .2)) in (
       λ d. subst (IsBelt p) (sym e) (is (λ z. d (e ∙ z))),
       ap (λ (es : List Belt). a .from + length es) all,
-      ap (λ (es : List Belt). sets (a .arcs .now) (a .from) (map arcOf es)) all,
+      ap (λ (es : List Belt). sets (a .arcs .now) (a .from) (map wordOf es)) all,
       refl,
     )
 
@@ -67,8 +67,8 @@ free c =
     omega (arith, c .before .before .loop .inv .1, c .before .before .loop .inv .3, c .before .before .before .before .before .before .pre .3)
 
 -- its number and where it leads fit
-name-low : (c : tie.Then1 Inv-loop μ-loop) → c .before .before .loop .belt .0 < maxRecords
-name-low c = belt-low (c .before .before .before .before .before .before .pre .0) (c .before .before .loop .belt .0) (belt-is c) .2
+index-low : (c : tie.Then1 Inv-loop μ-loop) → c .before .before .loop .belt .0 < maxRecords
+index-low c = belt-low (c .before .before .before .before .before .before .pre .0) (c .before .before .loop .belt .0) (belt-is c) .2
 
 leads-low : (c : tie.After-leads-to Inv-loop μ-loop) → c .leads-to .result < fieldLimit
 leads-low c =
@@ -83,13 +83,13 @@ mul-arcs-2 : tie.Need-mul-arcs-2 Inv-loop μ-loop
 mul-arcs-2 c = omega (arith, leads-low (c .before))
 
 cast-arcs : tie.Need-cast-arcs Inv-loop μ-loop
-cast-arcs c = omega (arith, name-low (c .before .before .before))
+cast-arcs c = omega (arith, index-low (c .before .before .before))
 
 add-arcs : tie.Need-add-arcs Inv-loop μ-loop
-add-arcs c = omega (arith, leads-low (c .before .before), name-low (c .before .before .before))
+add-arcs c = omega (arith, leads-low (c .before .before), index-low (c .before .before .before))
 
 add-arcs-2 : tie.Need-add-arcs-2 Inv-loop μ-loop
-add-arcs-2 c = omega (arith, c .before .cost .ensures .1, leads-low (c .before .before), name-low (c .before .before .before))
+add-arcs-2 c = omega (arith, c .before .cost .ensures .1, leads-low (c .before .before), index-low (c .before .before .before))
 
 mul-arcs-3 : tie.Need-mul-arcs-3 Inv-loop μ-loop
 mul-arcs-3 c = search needs
@@ -125,8 +125,8 @@ loop-again c =
     let leads = c .before .before .before .leads-to .ensures in (
       λ d. subst (IsBelt p) (sym q) (next-belt-is (start .pre .0) e (belt-is turn) (λ z. d (q ∙ z)) .1),
       omega (arith, loop .inv .1),
-      (λ i. sets (set (loop .arcs) (loop .count) (cost i * (fieldLimit * fieldLimit) + (leads i * fieldLimit + e))) (add-one (loop .count) i) (map arcOf (beltsFrom p (c .next-belt .result .0))))
-          ∙ sym (ap (λ (es : List Belt). sets (loop .arcs) (loop .count) (map arcOf es)) all)
+      (λ i. sets (set (loop .arcs) (loop .count) (cost i * (fieldLimit * fieldLimit) + (leads i * fieldLimit + e))) (add-one (loop .count) i) (map wordOf (beltsFrom p (c .next-belt .result .0))))
+          ∙ sym (ap (λ (es : List Belt). sets (loop .arcs) (loop .count) (map wordOf es)) all)
           ∙ loop .inv .2,
       length-set (loop .arcs) (loop .count) _ ∙ loop .inv .3,
     )
@@ -143,12 +143,12 @@ returns c =
     let all = leaving (planOf (a .p .now)) (a .u) in
     let none : beltsFrom (a .p .now) (loop .belt .0) ≡ [] = ap (beltsFrom (a .p .now)) (c .if1 .left) ∙ belts-end (start .pre .0) in
     let size = ap length none in
-    let many = length-map all arcOf in (
+    let many = length-map all wordOf in (
       omega (arith, loop .inv .1),
-      sym (ap (λ (es : List Belt). sets (loop .arcs) (loop .count) (map arcOf es)) none)
+      sym (ap (λ (es : List Belt). sets (loop .arcs) (loop .count) (map wordOf es)) none)
           ∙ loop .inv .2
-          ∙ sets-eq (map arcOf all) arcs (a .from) (omega (arith, start .pre .3))
-          ∙ ap (λ (n : ℕ). take (a .from) arcs ++ map arcOf all ++ drop (a .from + n) arcs) many,
+          ∙ sets-eq (map wordOf all) arcs (a .from) (omega (arith, start .pre .3))
+          ∙ ap (λ (n : ℕ). take (a .from) arcs ++ map wordOf all ++ drop (a .from + n) arcs) many,
     )
 
 pub put-leaving-spec : {M : Type 1} → statement M

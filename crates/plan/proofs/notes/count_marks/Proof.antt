@@ -6,7 +6,7 @@ use borrow.Author.Needs.{needs}
 use borrow.Author.Tests.{eq-eqb, ne-eqb}
 use native.Mathlib.Omega.{arith}
 use lib.ListN.{getD}
-use Rattle.plan.specs.Lists.{counted, count, upto}
+use Rattle.plan.specs.Lists.{countBy, count, upto}
 use Rattle.plan.specs.Inner.{markedOnce}
 use Rattle.plan.proofs.Counts.{count-step, count-done}
 use Rattle.plan.proofs.notes.count_marks.Statement.{statement}
@@ -43,8 +43,8 @@ loop-again c =
     let more = count-step (markedOnce marks) e n (c .before .before .loop-test .taken) in
     let to = count (markedOnce marks) (upto (e + 1) n) in
     ⊎-elim
-    (λ w. let s = more ∙ ap (λ t. counted t to) (eq-eqb (getD marks e 0) 1 (w .0 .taken)) in (omega arith, omega arith, omega arith))
-    (λ w. let s = more ∙ ap (λ t. counted t to) (ne-eqb (getD marks e 0) 1 (w .0 .left)) in (omega arith, omega arith, omega arith))
+    (λ w. let s = more ∙ ap (λ t. countBy t to) (eq-eqb (getD marks e 0) 1 (w .0 .taken)) in (omega arith, omega arith, omega arith))
+    (λ w. let s = more ∙ ap (λ t. countBy t to) (ne-eqb (getD marks e 0) 1 (w .0 .left)) in (omega arith, omega arith, omega arith))
     (c .if1 .came)
 
 returns : tie.Need-returns Inv-loop μ-loop

@@ -1,11 +1,11 @@
--- `read::is_belt` meets its contract: a belt's name is the index of a belt record. Assumes nothing.
+-- `read::is_belt` meets its contract: the indices of the plan's belts are those of belt records. Assumes nothing.
 use mathlib.Core.Path.{sym, ap, _∙_}
 use Prim.Native.Nat.{ℕ}
 use lib.Dec.{eqb}
 use native.Mathlib.Omega.{arith}
 use borrow.Author.Needs.{needs}
 use Rattle.plan.proofs.Accepted.{accepted-room, accepted-there}
-use Rattle.plan.proofs.Reading.{not-named, named-is}
+use Rattle.plan.proofs.Reading.{not-indexed, indexed-is}
 use Rattle.plan.proofs.read.is_belt.Statement.{statement}
 use Rattle.plan.proofs.read.is_belt.Tie as tie
 
@@ -24,7 +24,7 @@ returns c =
     let start = c .before .before .before .before in
     let n = c .before .records .ensures .0 in
     let few = c .if1 .taken in
-    sym (not-named (start .pre) (start .args .belt .0) (λ o. omega (arith, o .0)))
+    sym (not-indexed (start .pre) (start .args .belt .0) (λ o. omega (arith, o .0)))
 
 at-requires : tie.Need-at-requires
 at-requires c κs = search needs
@@ -34,7 +34,7 @@ returns-2 c =
     let start = c .before .before .before .before .before in
     let n = c .before .before .records .ensures .0 in
     let many = c .before .if1 .left in
-    ap (λ (k : ℕ). eqb k 2) (c .at .ensures) ∙ sym (named-is (start .pre) (start .args .belt .0) (omega arith))
+    ap (λ (k : ℕ). eqb k 2) (c .at .ensures) ∙ sym (indexed-is (start .pre) (start .args .belt .0) (omega arith))
 
 pub is-belt-spec : {M : Type 1} → statement M
 is-belt-spec = tie.close (tie.spec cast-e records-requires returns at-requires returns-2)

@@ -6,7 +6,7 @@ use lib.Dec.{eqb, ltb}
 use borrow.Author.Needs.{needs}
 use borrow.Author.Tests.{eq-eqb, ne-eqb, not-true, not-false}
 use Rattle.plan.specs.Lists.{all, mem}
-use Rattle.plan.specs.Plan.{planOf, namesOf}
+use Rattle.plan.specs.Plan.{planOf, indicesOf}
 use Rattle.route.specs.Routes.{connects, cost}
 use Rattle.route.specs.Permission.{passes, termsOf, works}
 use Rattle.route.specs.Values.{idsOf, Known, routeIn}
@@ -17,7 +17,7 @@ use Rattle.route.proofs.check.check_content.Tie as tie
 
 -- the four things that the lines ask
 abbrev belted : tie.Start → Bool
-belted c = all (λ (e : ℕ). mem e (namesOf (planOf (c .args .p .now) .belts))) (idsOf (c .args .sheet .route))
+belted c = all (λ (e : ℕ). mem e (indicesOf (planOf (c .args .p .now) .belts))) (idsOf (c .args .sheet .route))
 
 abbrev low : tie.Start → Bool
 low c = ltb (c .args .sheet .setting) (2 ^ planOf (c .args .p .now) .modes)

@@ -5,7 +5,7 @@ use mathlib.Core.Option.{Option}
 use mathlib.Core.List.{List}
 use native.Mathlib.Omega.{arith}
 use borrow.Author.Needs.{needs}
-use Rattle.plan.specs.Lists.{run}
+use Rattle.plan.specs.Lists.{iota}
 use Rattle.plan.specs.Plan.{planOf}
 use Rattle.route.specs.Permission.{allMet, find, otherwise}
 use Rattle.route.specs.Values.{settingIn, hasBelt}
@@ -153,7 +153,7 @@ try-both-returns t c =
     let a = start .args in
     let m = a .mode .0 in
     let f = works (a .p .now) (a .belts) in
-    let on-half = find f (run (a .setting + 2 ^ (m - 1)) (2 ^ (m - 1))) in
+    let on-half = find f (iota (a .setting + 2 ^ (m - 1)) (2 ^ (m - 1))) in
     sym (settle-both f m (a .setting) (start .pre .1 .3)
     ∙ ap (λ (o : Option ℕ). otherwise o on-half) (sym (c .before .before .before .settle .ensures) ∙ ap settingIn (c .before .off .given .1)))
 
@@ -165,9 +165,9 @@ try-both-returns-2 t c =
     let a = start .args in
     let m = a .mode .0 in
     let f = works (a .p .now) (a .belts) in
-    let on-half = find f (run (a .setting + 2 ^ (m - 1)) (2 ^ (m - 1))) in
+    let on-half = find f (iota (a .setting + 2 ^ (m - 1)) (2 ^ (m - 1))) in
     c .settle2 .ensures
-    ∙ ap (λ (w : ℕ). find f (run (a .setting + w) (2 ^ (m - 1)))) (weight m (start .pre .1 .4))
+    ∙ ap (λ (w : ℕ). find f (iota (a .setting + w) (2 ^ (m - 1)))) (weight m (start .pre .1 .4))
     ∙ sym (settle-both f m (a .setting) (start .pre .1 .3)
     ∙ ap (λ (o : Option ℕ). otherwise o on-half) (sym (c .before .before .before .settle .ensures) ∙ ap settingIn (c .before .enum-told .given .1)))
 

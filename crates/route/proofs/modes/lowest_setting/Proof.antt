@@ -3,7 +3,7 @@ use mathlib.Core.Path.{_≡_, _∙_, ap}
 use Prim.Native.Nat.{ℕ, _^_, _≤_}
 use native.Mathlib.Omega.{arith}
 use borrow.Author.Needs.{needs}
-use Rattle.plan.specs.Lists.{run}
+use Rattle.plan.specs.Lists.{iota}
 use Rattle.plan.specs.Plan.{planOf}
 use Rattle.plan.proofs.Reading.{plan-sizes}
 use Rattle.route.specs.Permission.{find, planTerms, works}
@@ -33,7 +33,7 @@ returns c =
     let start = counted .before .before .before in
     let p = start .args .p .now in
     let on = hasBelt p (start .args .belts) in
-    c .settle .ensures ∙ ap (λ (m : ℕ). find (works (planTerms (planOf p)) on) (run 0 (2 ^ m))) (counted .modes .ensures)
+    c .settle .ensures ∙ ap (λ (m : ℕ). find (works (planTerms (planOf p)) on) (iota 0 (2 ^ m))) (counted .modes .ensures)
 
 pub lowest-setting-spec : {M : Type 1} → statement M
 lowest-setting-spec = tie.close (tie.spec modes-requires cast-t5 settle-requires returns)

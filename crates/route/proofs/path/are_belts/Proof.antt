@@ -7,7 +7,7 @@ use borrow.Author.Needs.{needs}
 use borrow.Author.Tests.{not-true, not-false}
 use lib.ListN.{length, drop}
 use Rattle.plan.specs.Lists.{all, mem}
-use Rattle.plan.specs.Plan.{planOf, namesOf}
+use Rattle.plan.specs.Plan.{planOf, indicesOf}
 use Rattle.route.specs.Values.{idsOf}
 use Rattle.route.proofs.Held.{places, ids-next, ids-end}
 use Rattle.route.proofs.path.are_belts.Statement.{statement}
@@ -15,7 +15,7 @@ use Rattle.route.proofs.path.are_belts.Tie as tie
 
 abbrev Inv-loop : tie.InvT-loop
 Inv-loop p route k₀ k =
-    (route .count ≤ length (route .belts)) × (all (λ (e : ℕ). mem e (namesOf (planOf p .belts))) (drop k (idsOf route)) ≡ all (λ (e : ℕ). mem e (namesOf (planOf p .belts))) (idsOf route))
+    (route .count ≤ length (route .belts)) × (all (λ (e : ℕ). mem e (indicesOf (planOf p .belts))) (drop k (idsOf route)) ≡ all (λ (e : ℕ). mem e (indicesOf (planOf p .belts))) (idsOf route))
 
 abbrev μ-loop : tie.MeasureT-loop
 μ-loop p route k₀ k = route .count - k
@@ -41,7 +41,7 @@ returns c =
     let start = at .before .before in
     let route = start .args .t2 in
     let k = at .loop .k in
-    let known : ℕ → Bool = λ (e : ℕ). mem e (namesOf (planOf (start .args .p .now) .belts)) in
+    let known : ℕ → Bool = λ (e : ℕ). mem e (indicesOf (planOf (start .args .p .now) .belts)) in
     let this = sym (c .before .is-belt .ensures) ∙ not-true (c .before .is-belt .result) (c .if1 .taken) in
     let step = ap (all known) (ids-next route (at .loop .inv .0) k (c .before .before .before .loop-test .taken)) in
     sym (sym (at .loop .inv .1) ∙ step ∙ ap (λ (t : Bool). t && all known (drop (k + 1) (idsOf route))) this)
@@ -58,7 +58,7 @@ loop-again c =
     let start = at .before .before in
     let route = start .args .t2 in
     let k = at .loop .k in
-    let known : ℕ → Bool = λ (e : ℕ). mem e (namesOf (planOf (start .args .p .now) .belts)) in
+    let known : ℕ → Bool = λ (e : ℕ). mem e (indicesOf (planOf (start .args .p .now) .belts)) in
     let this = sym (c .before .is-belt .ensures) ∙ not-false (c .before .is-belt .result) (c .if1 .left) in
     let step = ap (all known) (ids-next route (at .loop .inv .0) k (c .before .before .before .loop-test .taken)) in
     (at .loop .inv .0, sym (step ∙ ap (λ (t : Bool). t && all known (drop (k + 1) (idsOf route))) this) ∙ at .loop .inv .1)
@@ -67,7 +67,7 @@ returns-2 : tie.Need-returns-2 Inv-loop μ-loop
 returns-2 c =
     let at = c .before in
     let start = at .before .before in
-    let known : ℕ → Bool = λ (e : ℕ). mem e (namesOf (planOf (start .args .p .now) .belts)) in
+    let known : ℕ → Bool = λ (e : ℕ). mem e (indicesOf (planOf (start .args .p .now) .belts)) in
     sym (sym (at .loop .inv .1) ∙ ap (all known) (ids-end (start .args .t2) (at .loop .inv .0) (at .loop .k) (c .loop-test .left)))
 
 pub are-belts-spec : {M : Type 1} → statement M

@@ -1,4 +1,4 @@
--- `path::before` meets its contract: costs that differ decide, and at equal costs the names that both routes hold do. Assumes nothing.
+-- `path::before` meets its contract: costs that differ decide, and at equal costs the indices that both routes hold do. Assumes nothing.
 use mathlib.Core.Path.{sym, _∙_}
 use borrow.Author.Needs.{needs}
 use Rattle.route.specs.Routes.{first, lower}

@@ -19,9 +19,9 @@ use Rattle.route.proofs.Held.{places, ids-next, ids-end}
 use Rattle.route.proofs.path.lower.Statement.{statement}
 use Rattle.route.proofs.path.lower.Tie as tie
 
--- the name of the belt at place k
-abbrev nameAt : Route → ℕ → ℕ
-nameAt r k = getD (r .belts) k (beltId 0) .0
+-- the index of the belt at place k
+abbrev indexAt : Route → ℕ → ℕ
+indexAt r k = getD (r .belts) k (beltId 0) .0
 
 -- whether what is left of a from place k on is lower than what is left of b
 abbrev leftLower : Route → Route → ℕ → Bool
@@ -33,7 +33,7 @@ Fit a b = (a .count ≤ length (a .belts)) × (b .count ≤ length (b .belts))
 
 -- where both go on, their next belts decide, or else the rest
 both-on : (a b : Route) → Fit a b → (k : ℕ) → k < a .count → k < b .count
-    → leftLower a b k ≡ first (nameAt a k) (nameAt b k) (leftLower a b (k + 1))
+    → leftLower a b k ≡ first (indexAt a k) (indexAt b k) (leftLower a b (k + 1))
 both-on a b fit k h l = λ i. lowerIds (ids-next a (fit .0) k h i) (ids-next b (fit .1) k l i)
 
 -- where only the first goes on
@@ -90,7 +90,7 @@ decided : (c : tie.Else1 Inv-loop μ-loop)
     → let at = c .before .before in
     let a = at .before .args .t1 in
     let b = at .before .args .t2 in
-    first (nameAt a (at .loop .k)) (nameAt b (at .loop .k)) (leftLower a b (at .loop .k + 1)) ≡ lowerIds (idsOf a) (idsOf b)
+    first (indexAt a (at .loop .k)) (indexAt b (at .loop .k)) (leftLower a b (at .loop .k + 1)) ≡ lowerIds (idsOf a) (idsOf b)
 decided c =
     let at = c .before .before in
     let start = at .before in
@@ -103,7 +103,7 @@ returns-2 c =
     let a = at .before .args .t1 in
     let b = at .before .args .t2 in
     let k = at .loop .k in
-    sym (first-ne (nameAt a k) (nameAt b k) (leftLower a b (k + 1)) (c .before .before .if2 .taken)) ∙ decided into
+    sym (first-ne (indexAt a k) (indexAt b k) (leftLower a b (k + 1)) (c .before .before .if2 .taken)) ∙ decided into
 
 add-k : tie.Need-add-k Inv-loop μ-loop
 add-k c = search needs
@@ -118,7 +118,7 @@ loop-again c =
     let a = at .before .args .t1 in
     let b = at .before .args .t2 in
     let k = at .loop .k in
-    (at .loop .inv .0, omega (arith, inside into), sym (first-eq (nameAt a k) (nameAt b k) (leftLower a b (k + 1)) (c .if2 .left)) ∙ decided into)
+    (at .loop .inv .0, omega (arith, inside into), sym (first-eq (indexAt a k) (indexAt b k) (leftLower a b (k + 1)) (c .if2 .left)) ∙ decided into)
 
 returns-3 : tie.Need-returns-3 Inv-loop μ-loop
 returns-3 c =

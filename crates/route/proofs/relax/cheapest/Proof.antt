@@ -13,7 +13,7 @@ use lib.Dec.{ltb}
 use Rattle.plan.specs.declared.read.BeltId.{BeltId}
 use Rattle.plan.specs.Bounds.{junctionPlaces, maxRecords}
 use Rattle.plan.specs.Plan.{Belt, planOf, leaving, named, placeIn, beltId}
-use Rattle.plan.specs.Adjacency.{arcHead, arcName}
+use Rattle.plan.specs.Adjacency.{wordHead, wordIndex}
 use Rattle.plan.specs.Reading.{Bytes}
 use Rattle.plan.proofs.Reading.{plan-sizes, belts-cost}
 use Rattle.route.specs.declared.relax.Fixings.{Fixings}
@@ -32,10 +32,10 @@ Gives p f costs nearest u best belt es =
     Cheap (subproblemIn p f) costs nearest (wayBy (subproblemIn p f) costs nearest noWay (leaving (planOf p) u)) best belt es
 
 abbrev Inv-loop : tie.InvT-loop
-Inv-loop p places ends arcs fixings ways nearest u best₀ belt₀ end i₀ best belt i = Left p arcs i end (Gives p fixings (costsIn ways) nearest u best belt)
+Inv-loop p places offsets arcs fixings ways nearest u best₀ belt₀ end i₀ best belt i = Left p arcs i end (Gives p fixings (costsIn ways) nearest u best belt)
 
 abbrev μ-loop : tie.MeasureT-loop
-μ-loop p places ends arcs fixings ways nearest u best₀ belt₀ end i₀ best belt i = end - i
+μ-loop p places offsets arcs fixings ways nearest u best₀ belt₀ end i₀ best belt i = end - i
 
 -- u is a junction, and there are at most 256
 below : (c : tie.Start Inv-loop μ-loop) → c .args .u < junctionPlaces
@@ -82,10 +82,10 @@ bytes : (c : tie.In-loop Inv-loop μ-loop) → Bytes (start c .args .p .now)
 bytes c i = c .before .before .before .before .before .shared-slice-known .given i .fits
 
 next : (c : tie.In-loop Inv-loop μ-loop) → let a = start c .args in let loop = c .before .loop in
-    Next (a .p .now) (a .arcs .now) (loop .i) (getD (a .ends .now) (a .u) 0) (Gives (a .p .now) (a .fixings) (costsIn (a .ways .now)) (a .nearest) (a .u) (loop .best) (loop .belt))
+    Next (a .p .now) (a .arcs .now) (loop .i) (getD (a .offsets .now) (a .u) 0) (Gives (a .p .now) (a .fixings) (costsIn (a .ways .now)) (a .nearest) (a .u) (loop .best) (loop .belt))
 next c = left-next (start c .pre .0 .accepted) (bytes c) (c .before .loop .inv) (c .loop-test .taken)
 
-low : (c : tie.In-loop Inv-loop μ-loop) → let arc = getD (start c .args .arcs .now) (c .before .loop .i) 0 in (arcHead arc < junctionPlaces) × (arcName arc < maxRecords)
+low : (c : tie.In-loop Inv-loop μ-loop) → let arc = getD (start c .args .arcs .now) (c .before .loop .i) 0 in (wordHead arc < junctionPlaces) × (wordIndex arc < maxRecords)
 low c = arc-low (start c .pre .0 .accepted) (next c .arc)
 
 mul-arc : tie.Need-mul-arc Inv-loop μ-loop
@@ -119,8 +119,8 @@ is-open-requires c κs =
     let h = start turn .pre .0 in
     (low turn .1, arc-place (h .accepted) (next turn .arc) (h .placed) .1)
 
-name-requires : tie.Need-name-requires Inv-loop μ-loop
-name-requires c κs = search needs
+index-requires : tie.Need-index-requires Inv-loop μ-loop
+index-requires c κs = search needs
 
 add-i : tie.Need-add-i Inv-loop μ-loop
 add-i c = search needs
@@ -142,13 +142,13 @@ sum c =
 
 -- whether it is excluded
 shut : (c : tie.In-loop Inv-loop μ-loop) → let a = start c .args in let arc = getD (a .arcs .now) (c .before .loop .i) 0 in
-    (inMask (a .fixings .forbidden) (placeIn (a .places .now) (arcName arc)) || ltb (a .nearest) (arcHead arc))
+    (inMask (a .fixings .forbidden) (placeIn (a .places .now) (wordIndex arc)) || ltb (a .nearest) (wordHead arc))
     ≡ (isForbidden (subproblemIn (a .p .now) (a .fixings)) (next c .belt) || ltb (a .nearest) (next c .belt .leads))
 shut c =
     let a = start c .args in
     let h = start c .pre .0 in
     let arc = next c .arc in
-    let out = ap (inMask (a .fixings .forbidden)) (arc-place (h .accepted) arc (h .placed) .0) ∙ sym (fixed-mem (named (planOf (a .p .now))) (a .fixings .forbidden) (next c .belt .name)) in
+    let out = ap (inMask (a .fixings .forbidden)) (arc-place (h .accepted) arc (h .placed) .0) ∙ sym (fixed-mem (named (planOf (a .p .now))) (a .fixings .forbidden) (next c .belt .index)) in
     λ i. out i || ltb (a .nearest) (arc .leads i)
 
 -- the invariant, once the belt is folded in
@@ -162,7 +162,7 @@ passed c =
     let over = sum (c .before) in
     ⊎-elim
     (λ w.
-    let name : c .if1 .belt .0 ≡ n .belt .name = ap (λ (e : BeltId). e .0) (w .5) ∙ w .3 .ensures ∙ n .arc .names in
+    let name : c .if1 .belt .0 ≡ n .belt .index = ap (λ (e : BeltId). e .0) (w .5) ∙ w .3 .ensures ∙ n .arc .indexed in
     subst₂ give (sym (w .4 ∙ over)) (sym (ap beltId name))
     (cheap-taken (n .passes) (subst (λ (k : ℕ). k < turn .before .loop .best) over (w .0 .taken)) (sym (shut turn) ∙ not-true _ (sym (w .1 .ensures) ∙ w .2 .taken))))
     (⊎-elim
@@ -204,7 +204,7 @@ cheapest-spec =
     element-copy-out-over
     add-over
     is-open-requires
-    name-requires
+    index-requires
     add-i
     loop-less
     loop-again

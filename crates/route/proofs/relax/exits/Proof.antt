@@ -9,10 +9,10 @@ use Rattle.route.proofs.relax.exits.Statement.{statement}
 use Rattle.route.proofs.relax.exits.Tie as tie
 
 abbrev Inv-loop : tie.InvT-loop
-Inv-loop p places ends arcs exits₀ last u₀ exits u = (1 ≤ u) × Filled p u exits
+Inv-loop p places offsets arcs exits₀ last u₀ exits u = (1 ≤ u) × Filled p u exits
 
 abbrev μ-loop : tie.MeasureT-loop
-μ-loop p places ends arcs exits₀ last u₀ exits u = last + 1 - u
+μ-loop p places offsets arcs exits₀ last u₀ exits u = last + 1 - u
 
 junctions-requires : tie.Need-junctions-requires Inv-loop μ-loop
 junctions-requires c κs = c .before .before .pre .0

@@ -11,7 +11,7 @@ use borrow.Author.Tests.{not-true, not-false}
 use Rattle.plan.specs.Plan.{Belt, planOf}
 use Rattle.plan.proofs.Reading.{plan-sizes}
 use Rattle.route.specs.Subproblems.{relaxed}
-use Rattle.route.specs.Values.{subproblemIn, atMost, summaryAs, keptOf}
+use Rattle.route.specs.Values.{subproblemIn, atMost, summaryAs, walkedOf}
 use Rattle.route.specs.Inner.{wayIn, wayCost}
 use Rattle.route.proofs.ByName.{ends-junctions}
 use Rattle.route.proofs.Bounded.{at-most-lost, at-most-found}
@@ -36,7 +36,7 @@ returns c =
     let lost = sym (asked .may-lead .ensures .1 (not-true _ (c .before .if1 .taken))) in (
       c .nothing .ensures ∙ ap (λ (o : Option (List Belt)). summaryAs (from .args .p .now) (atMost (from .args .bound) o)) lost,
       search needs,
-      ap (λ (o : Option (List Belt)). keptOf (atMost (from .args .bound) o) (from .args .kept .now)) lost,
+      ap (λ (o : Option (List Belt)). walkedOf (atMost (from .args .bound) o) (from .args .walked .now)) lost,
     )
 
 ways-to-requires : tie.Need-ways-to-requires
@@ -61,8 +61,8 @@ whole : (c : tie.After-ways-to) → let a = start c .args in way c ≡ relaxed (
 whole c = asked c .may-lead .ensures .0 (not-false _ (c .before .before .if1 .left)) .1
 
 -- what is left of it by the bound
-abbrev kept : tie.After-ways-to → Option (List Belt)
-kept c = atMost (start c .args .bound) (way c)
+abbrev walked : tie.After-ways-to → Option (List Belt)
+walked c = atMost (start c .args .bound) (way c)
 
 nothing-requires-2 : tie.Need-nothing-requires-2
 nothing-requires-2 c κs = search needs
@@ -89,20 +89,20 @@ returns-2 c =
     let from = start found in
     let a = from .args in
     let is = found .ways-to .ensures .0 in
-    let room = a .kept .now in
+    let room = a .walked .now in
     let asks : Option (List Belt) → Option (List Belt) = λ o. atMost (a .bound) o in
-    let (summary, stored) : (c .before .before .if2 .summary ≡ summaryAs (a .p .now) (kept found)) × (c .before .before .if2 .kept ≡ keptOf (kept found) room) =
+    let (summary, stored) : (c .before .before .if2 .summary ≡ summaryAs (a .p .now) (walked found)) × (c .before .before .if2 .walked ≡ walkedOf (walked found) room) =
     ⊎-elim
     (λ w.
     let same = sym (at-most-found (a .bound) (way found) (λ q. w .0 .taken (is ∙ q)) .0) in
-    (w .5 ∙ w .3 .ensures .0 ∙ ap (summaryAs (a .p .now)) same, w .4 ∙ w .3 .ensures .1 ∙ ap (λ (o : Option (List Belt)). keptOf o room) same))
+    (w .5 ∙ w .3 .ensures .0 ∙ ap (summaryAs (a .p .now)) same, w .4 ∙ w .3 .ensures .1 ∙ ap (λ (o : Option (List Belt)). walkedOf o room) same))
     (λ w.
     let lost = sym (at-most-lost (a .bound) (way found) (from .pre .7) (sym is ∙ w .0 .left)) in
-    (w .2 ∙ c .before .before .before .nothing2 .ensures ∙ ap (summaryAs (a .p .now)) lost, w .1 ∙ ap (λ (o : Option (List Belt)). keptOf o room) lost))
+    (w .2 ∙ c .before .before .before .nothing2 .ensures ∙ ap (summaryAs (a .p .now)) lost, w .1 ∙ ap (λ (o : Option (List Belt)). walkedOf o room) lost))
     (c .before .before .if2 .came) in (
       summary ∙ ap (λ (o : Option (List Belt)). summaryAs (a .p .now) (asks o)) (whole found),
       c .clear .ensures ∙ sym (from .pre .8),
-      stored ∙ ap (λ (o : Option (List Belt)). keptOf (asks o) room) (whole found),
+      stored ∙ ap (λ (o : Option (List Belt)). walkedOf (asks o) room) (whole found),
     )
 
 pub relaxed-route-spec : {M : Type 1} → statement M

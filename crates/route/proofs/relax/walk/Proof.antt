@@ -22,10 +22,10 @@ abbrev Of : List ℕ → Fixings → ℕ → ℕ → ℕ → List ℕ → Type 0
 Of p f s t cost ways = (cost ≡ wayCost (wayIn p f t s)) × Guides p f t s (firstsIn ways)
 
 abbrev Inv-loop : tie.InvT-loop
-Inv-loop p places cost ways s t kept₀ count₀ seen₀ at₀ kept count seen at = (f : Fixings) → Of p f s t cost ways → Walked p f s t kept₀ at count kept seen
+Inv-loop p places cost ways s t walked₀ count₀ seen₀ at₀ walked count seen at = (f : Fixings) → Of p f s t cost ways → Walked p f s t walked₀ at count walked seen
 
 abbrev μ-loop : tie.MeasureT-loop
-μ-loop p places cost ways s t kept₀ count₀ seen₀ at₀ kept count seen at = t - at
+μ-loop p places cost ways s t walked₀ count₀ seen₀ at₀ walked count seen at = t - at
 
 loop-holds : tie.Need-loop-holds Inv-loop μ-loop
 loop-holds c f of = let pre = c .before .pre in walked-start (pre .0) (pre .2) (pre .3) (of .0) (pre .4)
@@ -39,7 +39,7 @@ plan c = start c .args .p .now
 
 -- it can go on by belt x
 abbrev Goes : (c : tie.In-loop Inv-loop μ-loop) → Fixings → BeltId → Type 0
-Goes c f x = Step (plan c) f (start c .args .s) (start c .args .t) (start c .args .kept .now) (c .before .loop .at) (c .before .loop .count) (c .before .loop .kept) (c .before .loop .seen) x
+Goes c f x = Step (plan c) f (start c .args .s) (start c .args .t) (start c .args .walked .now) (c .before .loop .at) (c .before .loop .count) (c .before .loop .walked) (c .before .loop .seen) x
 
 first : (c : tie.In-loop Inv-loop μ-loop) (f : Fixings) → Of (plan c) f (start c .args .s) (start c .args .t) (start c .args .cost) (start c .args .ways .now)
     → Goes c f (getD (firstsIn (start c .args .ways .now)) (c .before .loop .at) (beltId 0))
@@ -63,11 +63,11 @@ next c f of = subst (Goes (c .before) f) (sym (c .first-of .ensures)) (first (c 
 step : (c : tie.After-first-of Inv-loop μ-loop) → Goes (c .before) (start (c .before) .args .fixings) (belt c)
 step c = let pre = start (c .before) .pre in next c (start (c .before) .args .fixings) (pre .5, pre .6)
 
-mul-kept : tie.Need-mul-kept Inv-loop μ-loop
-mul-kept c = omega (arith, step c .room)
+mul-walked : tie.Need-mul-walked Inv-loop μ-loop
+mul-walked c = omega (arith, step c .room)
 
-element-write-kept : tie.Need-element-write-kept Inv-loop μ-loop
-element-write-kept c = step c .room
+element-write-walked : tie.Need-element-write-walked Inv-loop μ-loop
+element-write-walked c = step c .room
 
 add-count : tie.Need-add-count Inv-loop μ-loop
 add-count c = omega (arith, step c .room)
@@ -107,7 +107,7 @@ loop-again c f of =
     let loop = turn .before .before .loop in
     let args = start (turn .before) .args in
     let mask = gathered .with .ensures ∙ ap (withPlace (loop .seen)) (there (gathered .before) .0) in
-    subst₂ (λ (u m : ℕ). Walked (plan (turn .before)) f (args .s) (args .t) (args .kept .now) u (loop .count + 1) (set (loop .kept) (loop .count) (belt turn .0)) m)
+    subst₂ (λ (u m : ℕ). Walked (plan (turn .before)) f (args .s) (args .t) (args .walked .now) u (loop .count + 1) (set (loop .walked) (loop .count) (belt turn .0)) m)
     (sym (c .leads-to .ensures)) (sym mask)
     (next turn f of .walked)
 
@@ -125,8 +125,8 @@ walk-spec =
     μ-loop
     loop-holds
     first-of-requires
-    mul-kept
-    element-write-kept
+    mul-walked
+    element-write-walked
     add-count
     place-of-requires
     with-requires

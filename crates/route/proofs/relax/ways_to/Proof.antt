@@ -16,7 +16,7 @@ use Rattle.route.specs.Subproblems.{Subproblem}
 use Rattle.route.specs.Values.{subproblemIn}
 use Rattle.route.specs.Inner.{wayIn, wayCost, costsIn, firstsIn, Spared}
 use Rattle.route.proofs.Bounded.{at-most-none, at-most-some}
-use Rattle.route.proofs.Kept.{cost-at, costs-set, firsts-set, kept-start, spared-set}
+use Rattle.route.proofs.Kept.{cost-at, costs-set, firsts-set, ways-start, spared-set}
 use Rattle.route.proofs.Passed.{Passed, passed-start, passed-low, passed-moved, passed-kept, passed-above}
 use Rattle.route.proofs.relax.ways_to.Statement.{statement}
 use Rattle.route.proofs.relax.ways_to.Tie as tie
@@ -26,10 +26,10 @@ abbrev Done : List ℕ → Subproblem → ℕ → ℕ → ℕ → List ℕ → T
 Done p x t u nearest ways = Passed p x t u nearest (costsIn ways) (firstsIn ways)
 
 abbrev Inv-loop : tie.InvT-loop
-Inv-loop p places belts ends arcs exits fixings bound s t ways₀ nearest₀ u₀ ways nearest u = Done p (subproblemIn p fixings) t u nearest ways × Spared s t ways
+Inv-loop p places belts offsets arcs exits fixings bound s t ways₀ nearest₀ u₀ ways nearest u = Done p (subproblemIn p fixings) t u nearest ways × Spared s t ways
 
 abbrev μ-loop : tie.MeasureT-loop
-μ-loop p places belts ends arcs exits fixings bound s t ways₀ nearest₀ u₀ ways nearest u = u
+μ-loop p places belts offsets arcs exits fixings bound s t ways₀ nearest₀ u₀ ways nearest u = u
 
 -- s and t are junctions, and there are at most 256
 inside : (c : tie.Start Inv-loop μ-loop) → (c .args .s < junctionPlaces) × (c .args .t < junctionPlaces)
@@ -48,7 +48,7 @@ loop-holds c =
     let p = start .args .p .now in
     let x = subproblemIn p (start .args .fixings) in
     let t = start .args .t in
-    let (costs, firsts, spared) = kept-start (start .args .s) t (start .args .ways .now) (start .pre .7) in
+    let (costs, firsts, spared) = ways-start (start .args .s) t (start .args .ways .now) (start .pre .7) in
     (subst₂ (Passed p x t t t) (sym costs) (sym firsts) (passed-start (start .pre .0 .accepted) (bytes known) x t (start .pre .4)), spared)
 
 sub-u : tie.Need-sub-u Inv-loop μ-loop

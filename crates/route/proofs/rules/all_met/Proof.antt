@@ -39,7 +39,7 @@ add-on c =
     omega (arith, assigned-fits (start .pre .0) (start .pre .2) (start .args .setting) (omega arith))
 
 shared-slice-read-next : tie.Need-shared-slice-read-next Inv-loop μ-loop Inv-rules μ-rules
-shared-slice-read-next c = let start = c .before .before .before in omega (arith, records-more (start .pre .0), start .pre .1 .room)
+shared-slice-read-next c = let start = c .before .before .before in omega (arith, records-more (start .pre .0), start .pre .1 .records-fit)
 
 rules-holds : tie.Need-rules-holds Inv-loop μ-loop Inv-rules μ-rules
 rules-holds c =
@@ -64,7 +64,7 @@ mul-rule c = omega (arith, rule-small c .1)
 shared-slice-read-rule : tie.Need-shared-slice-read-rule Inv-loop μ-loop Inv-rules μ-rules
 shared-slice-read-rule c =
     let turn = c .before in
-    omega (arith, rule-small turn .0, turn .before .before .before .before .before .pre .1 .room)
+    omega (arith, rule-small turn .0, turn .before .before .before .before .before .pre .1 .records-fit)
 
 -- the two parts of its entry
 parts : (c : tie.In-rules Inv-loop μ-loop Inv-rules μ-rules) →
@@ -104,7 +104,7 @@ mul-entry c = omega (arith, literal-small c .1)
 shared-slice-read-entry : tie.Need-shared-slice-read-entry Inv-loop μ-loop Inv-rules μ-rules
 shared-slice-read-entry c =
     let round = c .before in
-    omega (arith, literal-small round .0, round .before .before .before .before .before .before .before .before .pre .1 .room)
+    omega (arith, literal-small round .0, round .before .before .before .before .before .before .before .before .pre .1 .records-fit)
 
 -- the two parts of its entry
 halves : (c : tie.In-loop Inv-loop μ-loop Inv-rules μ-rules) →

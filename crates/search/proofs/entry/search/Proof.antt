@@ -56,15 +56,15 @@ returns-2 c =
     refused-told (request start) WrongEnds (start .args .out .now) (trip-refused (request start) 8 (nonzero WrongEnds) lines)
 
 -- past the test of s and t
-ends : (c : tie.Else1)
+offsets : (c : tie.Else1)
     → (let start = c .before .before .before .before .before .before .before in
     wrongEnds (planOf (start .args .p .now)) (start .args .query .trip .s) (start .args .query .trip .t) ≡ false)
-ends c = sym (c .before .wrong-ends .ensures) ∙ c .if1 .left
+offsets c = sym (c .before .wrong-ends .ensures) ∙ c .if1 .left
 
 past-trip : (c : tie.Else1) → Unbroken tripLines (tripIn (asked (request (c .before .before .before .before .before .before .before))))
 past-trip c =
     let trip = tripIn (asked (request (c .before .before .before .before .before .before .before))) in
-    ends-trip trip (accepted (c .before .before)) (ends-fine trip (ends c))
+    ends-trip trip (accepted (c .before .before)) (ends-fine trip (offsets c))
 
 wrong-query-requires : tie.Need-wrong-query-requires
 wrong-query-requires c κs = search needs
@@ -94,7 +94,7 @@ find-route-requires : tie.Need-find-route-requires
 find-route-requires c κs =
     let at = c .before .before .before .before in
     let past = at .before .before in
-    (accepted past, ends at, c .before .if3 .left)
+    (accepted past, offsets at, c .before .if3 .left)
 
 same-length : tie.Need-same-length
 same-length c = search needs

@@ -8,17 +8,17 @@ use Rattle.search.specs.declared.state.Ending.{Ending}
 use Rattle.search.specs.declared.state.Ending.the-variants.{GoesOn, Found, Nothing, Spent}
 use Rattle.plan.specs.Bounds.{junctionPlaces, maxSteps}
 use Rattle.search.specs.Values.{boundIn}
-use Rattle.search.proofs.Bounds.{kept-in-size}
+use Rattle.search.proofs.Bounds.{walked-in-size}
 use Rattle.search.proofs.Opening.{Running, running-first, Handed, left, handed, fewer}
 use Rattle.search.proofs.run.run.Statement.{statement}
 use Rattle.search.proofs.run.run.Tie as tie
 
 abbrev Inv-loop : tie.InvT-loop
-Inv-loop p places belts ends arcs exits clauses counts query ways₀ kept₀ stepped₀ ways kept stepped =
-    Handed p query stepped (stepped .ending) × (stepped .bound ≡ boundIn p (stepped .search)) × (ways ≡ replicate junctionPlaces 0) × (length kept ≡ maxSteps)
+Inv-loop p places belts offsets arcs exits clauses counts query ways₀ walked₀ stepped₀ ways walked stepped =
+    Handed p query stepped (stepped .ending) × (stepped .bound ≡ boundIn p (stepped .search)) × (ways ≡ replicate junctionPlaces 0) × (length walked ≡ maxSteps)
 
 abbrev μ-loop : tie.MeasureT-loop
-μ-loop p places belts ends arcs exits clauses counts query ways₀ kept₀ stepped₀ ways kept stepped = left query stepped (stepped .ending)
+μ-loop p places belts offsets arcs exits clauses counts query ways₀ walked₀ stepped₀ ways walked stepped = left query stepped (stepped .ending)
 
 begin-requires : tie.Need-begin-requires Inv-loop μ-loop
 begin-requires c κs = search needs
@@ -60,8 +60,8 @@ loop-again c =
     let told = c .before .before .before in
     let at = told .before .before in
     let args = at .before .before .before .before .before .args in
-    let (turn, valid, bound, same, kept) = c .step .ensures in
-    (handed (args .p .now) (args .query) (goes told) (c .step .result) turn valid, bound, same ∙ at .loop .inv .2, ap length kept ∙ kept-in-size (args .p .now) (args .query) (at .loop .stepped .search) (at .loop .kept) ∙ at .loop .inv .3)
+    let (turn, valid, bound, same, walked) = c .step .ensures in
+    (handed (args .p .now) (args .query) (goes told) (c .step .result) turn valid, bound, same ∙ at .loop .inv .2, ap length walked ∙ walked-in-size (args .p .now) (args .query) (at .loop .stepped .search) (at .loop .walked) ∙ at .loop .inv .3)
 
 enum-told-2 : tie.Need-enum-told-2 Inv-loop μ-loop
 enum-told-2 c = search needs

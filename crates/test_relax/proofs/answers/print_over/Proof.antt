@@ -8,7 +8,7 @@ use Rattle.plan.specs.Adjacency.{arcsIn}
 use Rattle.plan.proofs.Arcs.{arcs-lent, records-few}
 use Rattle.route.specs.Subproblems.{relaxed}
 use Rattle.route.specs.Values.{subproblemIn, atMost}
-use Rattle.route.proofs.Bounded.{kept-size}
+use Rattle.route.proofs.Bounded.{walked-size}
 use Rattle.test_relax.proofs.answers.print_over.Statement.{statement}
 use Rattle.test_relax.proofs.answers.print_over.Tie as tie
 
@@ -53,7 +53,7 @@ print-relaxed-requires c κs =
     let a = c .before .before .before .before .before .before .before .before .before .before .before .before .before .before .before .before .before .before .args in
     let b = a .p .now in
     let way = atMost 281474976710655 (relaxed (planOf b) (a .trip .s) (a .trip .t) (subproblemIn b (a .fixings))) in
-    ap length (c .before .relaxed-route .ensures .2) ∙ kept-size way (replicate 255 0)
+    ap length (c .before .relaxed-route .ensures .2) ∙ walked-size way (replicate 255 0)
 
 returns : tie.Need-returns
 returns c = search needs

@@ -29,7 +29,7 @@ print-belts-requires : tie.Need-print-belts-requires
 print-belts-requires c κs =
     let few = c .before .if2 .taken in
     let start = c .before .before .before .before .before .before .before in
-    omega (arith, few, ap (λ (r : Route). r .count) (c .of-belts .ensures), length-take-le (start .args .summary .count) (start .args .kept .now) (omega (arith, start .pre)))
+    omega (arith, few, ap (λ (r : Route). r .count) (c .of-belts .ensures), length-take-le (start .args .summary .count) (start .args .walked .now) (omega (arith, start .pre)))
 
 returns-2 : tie.Need-returns-2
 returns-2 c = search needs

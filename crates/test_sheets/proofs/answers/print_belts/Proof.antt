@@ -5,9 +5,9 @@ use mathlib.Core.Path.{sym, _∙_}
 use mathlib.Core.Bool.{Bool}
 use Prim.Native.Nat.{ℕ}
 use Rattle.plan.specs.Lists.{mem}
-use Rattle.plan.specs.Plan.{planOf, namesOf}
+use Rattle.plan.specs.Plan.{planOf, indicesOf}
 use Rattle.plan.proofs.Lists.{all-in}
-use Rattle.plan.proofs.Reading.{name-belt}
+use Rattle.plan.proofs.Reading.{index-belt}
 use Rattle.route.specs.Values.{idsOf}
 use Rattle.test_sheets.proofs.answers.print_belts.Statement.{statement}
 use Rattle.test_sheets.proofs.answers.print_belts.Tie as tie
@@ -27,12 +27,12 @@ returns c = search needs
 print-setting-requires : tie.Need-print-setting-requires
 print-setting-requires c κs =
     let start = c .before .before .before in
-    let known : ℕ → Bool = λ (e : ℕ). mem e (namesOf (planOf (start .args .p .now) .belts)) in
+    let known : ℕ → Bool = λ (e : ℕ). mem e (indicesOf (planOf (start .args .p .now) .belts)) in
     let ours = sym (c .before .are-belts .ensures) ∙ not-false (c .before .are-belts .result) (c .if1 .left) in (
       start .pre .0,
       record {
         few = start .pre .1;
-        belts = λ e m. name-belt (start .pre .0) e (all-in known (idsOf (start .args .r)) ours m);
+        belts = λ e m. index-belt (start .pre .0) e (all-in known (idsOf (start .args .r)) ours m);
       },
     )
 

@@ -20,8 +20,8 @@ use Rattle.route.specs.declared.relax.Summary.{Summary}
 use Rattle.route.specs.Routes.{cost, costLimit, before}
 use Rattle.route.specs.Permission.{passes}
 use Rattle.route.specs.Subproblems.{relaxed}
-use Rattle.route.specs.Values.{idsOf, Known, routeIn, OfNamed, subproblemIn, hasBelt, atMost, keptOf, firstBelts}
-use Rattle.route.proofs.Bounded.{kept-size}
+use Rattle.route.specs.Values.{idsOf, Known, routeIn, OfNamed, subproblemIn, hasBelt, atMost, walkedOf, firstBelts}
+use Rattle.route.proofs.Bounded.{walked-size}
 use Rattle.route.proofs.Holding.{known-low, mask-named}
 use Rattle.search.specs.declared.state.Search.{Search}
 use Rattle.search.specs.declared.state.Ending.{Ending}
@@ -30,7 +30,7 @@ use Rattle.search.specs.declared.state.Judged.{Judged}
 use Rattle.search.specs.declared.state.Judged.the-variants.{Best}
 use Rattle.search.specs.Search.{considered}
 use Rattle.search.specs.Answers.{problemIn}
-use Rattle.search.specs.Values.{noFixings, stateIn, endingIn, turnIn, boundIn, Valid, stepIn, newestOf, relaxedIn, keptBy, keptIn, maxWaiting}
+use Rattle.search.specs.Values.{noFixings, stateIn, endingIn, turnIn, boundIn, Valid, stepIn, newestOf, relaxedIn, walkedBy, walkedIn, maxWaiting}
 use Rattle.search.specs.Inner.{endedAs, heldAs, betterIn, judgedIn}
 use Rattle.search.proofs.Holding.{places, settledTo, Room, Taken, Settles, popped, count-few, popped-taken}
 use Rattle.search.proofs.Opening.{OnRoute, answered, judged-same, judged-settles, step-empty, step-spent, step-goes}
@@ -47,14 +47,14 @@ returns c =
     let b = start .args .p .now in
     let q = start .args .query in
     let v = start .args .self in
-    let room = start .args .kept .now in
-    let kept : Bool → List ℕ = λ t. keptBy t (atMost (boundIn b v) (relaxedIn b (q .trip) (newestOf v))) room in
-    let (turn, same) : (record { state = stateIn b v; ending = endingIn (endedAs (v .count) (v .found)) } ≡ stepIn b q v) × (room ≡ keptIn b q v room) =
+    let room = start .args .walked .now in
+    let walked : Bool → List ℕ = λ t. walkedBy t (atMost (boundIn b v) (relaxedIn b (q .trip) (newestOf v))) room in
+    let (turn, same) : (record { state = stateIn b v; ending = endingIn (endedAs (v .count) (v .found)) } ≡ stepIn b q v) × (room ≡ walkedIn b q v room) =
     ⊎-elim
-    (λ w. (step-empty b q (q .budget) v (w .taken), sym (ap (λ (t : Bool). kept (t || eqb (v .opened) (q .budget))) (eq-eqb (v .count) 0 (w .taken)))))
+    (λ w. (step-empty b q (q .budget) v (w .taken), sym (ap (λ (t : Bool). walked (t || eqb (v .opened) (q .budget))) (eq-eqb (v .count) 0 (w .taken)))))
     (λ w. (
       step-spent b q (q .budget) v (w .0 .left) (eqb-true (v .opened) (q .budget) (w .3 .taken)),
-      sym (ap kept ((λ i. eqb (v .count) 0 || w .3 .taken i) ∙ or-true (eqb (v .count) 0))),
+      sym (ap walked ((λ i. eqb (v .count) 0 || w .3 .taken i) ∙ or-true (eqb (v .count) 0))),
     ))
     (c .before .if1 .came) in (
       ap (λ (e : Ending). record { state = stateIn b v; ending = endingIn e }) (c .ended .ensures) ∙ turn,
@@ -147,10 +147,10 @@ told c =
 
 -- what the room has then: 255 places, out of which a relaxed route within the bound is read
 abbrev holds : tie.After-relaxed-route → List ℕ
-holds c = let goes = opened c in keptOf (atMost (start goes .args .bound) (answer goes)) (start goes .args .kept .now)
+holds c = let goes = opened c in walkedOf (atMost (start goes .args .bound) (answer goes)) (start goes .args .walked .now)
 
 holds-size : (c : tie.After-relaxed-route) → length (holds c) ≡ maxSteps
-holds-size c = let from = start (opened c) in kept-size (atMost (from .args .bound) (answer (opened c))) (from .args .kept .now) ∙ from .pre .5
+holds-size c = let from = start (opened c) in walked-size (atMost (from .args .bound) (answer (opened c))) (from .args .walked .now) ∙ from .pre .5
 
 abbrev Is-held : tie.After-relaxed-route → Type 0
 Is-held c = let goes = opened c in Held (start goes .args .p .now) (start goes .args .bound) (answer goes) (c .relaxed-route .result)
@@ -165,7 +165,7 @@ read : (c : tie.After-relaxed-route) → Is-held c → firstBelts (c .relaxed-ro
 read c held =
     let goes = opened c in
     let ready = start goes .pre .0 in
-    held-back (ready .accepted) (bytes goes) (start goes .args .query .trip) (ready .junctions) (newestOf (now goes)) held (start goes .args .kept .now) (start goes .pre .5)
+    held-back (ready .accepted) (bytes goes) (start goes .args .query .trip) (ready .junctions) (newestOf (now goes)) held (start goes .args .walked .now) (start goes .pre .5)
 
 -- it is of belts of the plan, and the mask has its named ones
 held-on : (c : tie.After-relaxed-route) (held : Is-held c) → let goes = opened c in let b = start goes .args .p .now in
@@ -376,18 +376,18 @@ returns-2 c =
     let free = freed judged .free .ensures in
     let asked = summarized judged in
     let same = start from .pre .3 in
-    let ends = done judged (with-waiting (c .match .self) (c .match .waiting)) (c .match .bound) in
+    let offsets = done judged (with-waiting (c .match .self) (c .match .waiting)) (c .match .bound) in
     let (turn, valid, bound) =
     ⊎-elim
     (λ w.
-    ends ((λ i. with-waiting (w .2 i) (w .4 i)) ∙ popped-is (freed judged) ∙ sym (ap (settled judged) (w .1 .given .1)))
+    offsets ((λ i. with-waiting (w .2 i) (w .4 i)) ∙ popped-is (freed judged) ∙ sym (ap (settled judged) (w .1 .given .1)))
     (w .3 ∙ same ∙ sym (ap (boundIn b) (w .2))))
     (⊎-elim
     (λ w.
     let held = best-held judged (w .1 .given .1) in
     let best = w .3 .ensures ∙ ap (firstBelts (asked .relaxed-route .result .count)) (asked .relaxed-route .ensures .2) ∙ read asked held in
     let price : asked .relaxed-route .result .cost ≡ cost (held .route) = ap (λ (u : Summary). u .cost) (held .summary) in
-    ends
+    offsets
     ((λ i. with-waiting (w .4 i) (w .6 i))
     ∙ (λ i. record {
       waiting = set (v .waiting) (v .count - 1) (free i);
@@ -401,7 +401,7 @@ returns-2 c =
     (λ w.
     let older = w .4 .ensures in
     let newer = w .6 .ensures in
-    ends
+    offsets
     ((λ i. with-waiting (w .7 i) (w .9 i))
     ∙ (λ i. record {
       waiting = set (set (set (v .waiting) (v .count - 1) (free i)) (v .count - 1) (older i)) (v .count - 1 + 1) (newer i);
@@ -413,14 +413,14 @@ returns-2 c =
     ∙ sym (ap (settled judged) (w .1 .given .1)))
     (w .8 ∙ same ∙ sym (ap (boundIn b) (w .7)))))
     (c .match .came) in
-    let goes-on : Bool → List ℕ = λ t. keptBy t (atMost (boundIn b v) (answer from)) (start from .args .kept .now) in
+    let goes-on : Bool → List ℕ = λ t. walkedBy t (atMost (boundIn b v) (answer from)) (start from .args .walked .now) in
     let waits = ne-eqb (v .count) 0 (from .before .before .before .if1 .left) in (
       turn,
       valid,
       bound,
       asked .relaxed-route .ensures .1,
       asked .relaxed-route .ensures .2
-          ∙ ap (λ (k : ℕ). keptOf (atMost k (answer from)) (start from .args .kept .now)) same
+          ∙ ap (λ (k : ℕ). walkedOf (atMost k (answer from)) (start from .args .walked .now)) same
           ∙ sym (λ i. goes-on (waits i || from .if2 .left i)),
     )
 

@@ -1,10 +1,10 @@
--- `entry::numbers` meets its contract: case by case. Assumes nothing.
+-- `entry::reply_of` meets its contract: case by case. Assumes nothing.
 use mathlib.Core.Path.{sym, _∙_, ap}
 use Prim.Native.Nat.{ℕ}
 use borrow.Author.Needs.{needs}
 use Rattle.search.specs.Answers.{reply, replyOf}
-use Rattle.search.proofs.entry.numbers.Statement.{statement}
-use Rattle.search.proofs.entry.numbers.Tie as tie
+use Rattle.search.proofs.entry.reply_of.Statement.{statement}
+use Rattle.search.proofs.entry.reply_of.Tie as tie
 
 enum-known-answer : tie.Need-enum-known-answer
 enum-known-answer c = search needs
@@ -39,8 +39,8 @@ returns-4 c = sym (ap replyOf (c .before .answer4 .given .1))
 returns-5 : tie.Need-returns-5
 returns-5 c = ap (λ (n : ℕ). reply n 0 0) (c .number .ensures) ∙ sym (ap replyOf (c .before .before .answer5 .given .1))
 
-pub numbers-spec : {M : Type 1} → statement M
-numbers-spec =
+pub reply-of-spec : {M : Type 1} → statement M
+reply-of-spec =
     tie.close
     (tie.spec
     enum-known-answer
