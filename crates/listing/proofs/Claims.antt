@@ -11,10 +11,10 @@ use Rattle.plan.specs.Reading.{Bytes}
 use Rattle.route.specs.declared.sheet.Sheet.{Sheet}
 use Rattle.route.specs.Sheets.{sheetOf, inForm, beltsOn, costOn, settingOn}
 use Rattle.route.specs.Values.{packed, sheetIn}
-use Rattle.route.proofs.Readings.{round-trip}
+use Rattle.route.proofs.SheetReading.{round-trip}
 use Rattle.search.specs.declared.entry.Reply.{Reply}
 use Rattle.search.specs.Answers.{Request, Outcome, refused, route, nothing, spent, paused, outcome, replyTo, outAfter}
-use Rattle.search.proofs.Answering.{accepted-claim}
+use Rattle.search.proofs.AnswerOutcome.{accepted-claim}
 use Rattle.listing.specs.declared.Line.{Line}
 use Rattle.listing.specs.Lines.{blank, orBlank, readSheet, sheetAt}
 use Rattle.listing.specs.Claims.{line, lineAs, ListedClaim}

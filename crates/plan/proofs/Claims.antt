@@ -1,9 +1,9 @@
 -- The claims of specs/Claims.antt hold, all of them. Assumes nothing.
 use Rattle.plan.specs.Refusals.{planLines, refusal}
 use Rattle.plan.specs.Claims.{FirstClaim, LimitsClaim, DistinctClaim, NonzeroClaim, Claims}
-use Rattle.plan.proofs.First.{first-exactly}
-use Rattle.plan.proofs.Limits.{limits-accepted, accepted-limits}
-use Rattle.plan.proofs.Numbers.{distinct, nonzero}
+use Rattle.plan.proofs.LineFirst.{first-exactly}
+use Rattle.plan.proofs.LineLimits.{limits-accepted, accepted-limits}
+use Rattle.plan.proofs.LineNumbers.{distinct, nonzero}
 
 -- the number is n exactly when n is that of the first broken line, or 0 where none is broken
 pub first-claim : FirstClaim

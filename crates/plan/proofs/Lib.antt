@@ -1,23 +1,23 @@
--- Laws, each file after those that it rests on. The layers above go by these: Reading, Naming, Places, Arcs and Numbers, about plans;
--- Writing, about records; First, about lists of refusal lines; Lists, Counts and Rising, about any lists. The others are behind them;
--- the claims are proved in Claims.
+-- Laws, each file after those that it rests on. The layers above go by these: Reading, NamedBelts, NamedPlaces, AdjacencyArcs and
+-- LineNumbers, about plans; RecordWriting, about records; LineFirst, about lists of refusal lines; Lists, ListCounts and ListRising, about any
+-- lists. The others are behind them; the claims are proved in Claims. docs/NAMING.md says what the names begin with.
 pub mod Lists
-pub mod Counts
-pub mod Rising
-pub mod Writing
-pub mod Links
-pub mod Forms
-pub mod Literals
-pub mod Marks
-pub mod Passed
-pub mod Reached
-pub mod Chains
-pub mod Naming
-pub mod Places
-pub mod First
-pub mod Accepted
-pub mod Limits
-pub mod Numbers
+pub mod ListCounts
+pub mod ListRising
+pub mod RecordWriting
+pub mod ChainLinks
+pub mod LineForms
+pub mod LineLiterals
+pub mod ChainMarks
+pub mod LinePassed
+pub mod ChainReached
+pub mod ChainLaws
+pub mod NamedBelts
+pub mod NamedPlaces
+pub mod LineFirst
+pub mod LineAccepted
+pub mod LineLimits
+pub mod LineNumbers
 pub mod Claims
 pub mod Reading
-pub mod Arcs
+pub mod AdjacencyArcs

@@ -1,5 +1,5 @@
 -- Laws of the lists and tests of specs/Lists.antt, grouped by what they are about: Booleans, tests of numbers, elements, `any` and `all`,
--- `keep`, `map` and `joined`, `iota` and `upto`, `mem`, `count`, loops that count up. Rising lists are in Rising.antt.
+-- `keep`, `map` and `joined`, `iota` and `upto`, `mem`, `count`, loops that count up. Rising lists are in ListRising.antt.
 -- Assumes nothing.
 use mathlib.Core.Path.{_≡_, refl, sym, _∙_, ap, subst}
 use mathlib.Core.Logic.{_⊎_, inl, inr}

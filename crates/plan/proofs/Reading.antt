@@ -33,8 +33,8 @@
 --                           every rule record stands on the chain of rules, every literal record on the chain of a rule
 --   rule-in, literal-in     every rule record is a rule of the plan, every literal record is a literal of one
 --   literal-belt, literal-mode   what a literal of a rule names
---   named-few               at most 48; that they rise, and are exactly the belts in some rule, is in Naming.antt
---                           (named-rises, in-named, named-of), and their places are in Places.antt
+--   named-few               at most 48; that they rise, and are exactly the belts in some rule, is in NamedBelts.antt
+--                           (named-rises, in-named, named-of), and their places are in NamedPlaces.antt
 --
 -- Assumes nothing.
 use mathlib.Core.Path.{_≡_, refl, sym, _∙_, ap, subst}
@@ -58,14 +58,14 @@ use Rattle.plan.specs.Limits.{Limits}
 use Rattle.plan.specs.Reading.{Accepted, Bytes, IsBelt, IsRule, IsLiteral, isRuleAt, isLiteralAt}
 use Rattle.plan.specs.Reading.{firstBelt, nextBelt, firstRule, nextRule, firstLiteral, nextLiteral, beltChain, ruleChain, literalChain, beltsFrom, rulesFrom, literalsFrom}
 use Rattle.plan.proofs.Lists.{both, and-is, untrue, alike, in-keep, keep-in, in-map, map-in, in-mem, mem-in}
-use Rattle.plan.proofs.Forms.{Item, belts, rules, literals}
-use Rattle.plan.proofs.Links.{Linked}
-use Rattle.plan.proofs.Rising.{Rises}
-use Rattle.plan.proofs.Passed.{linked}
-use Rattle.plan.proofs.Chains.{above, chain-end, chain-few, belt-step, rule-step, literal-step, first-belt, next-belt, first-rule, next-rule, first-literal, next-literal, rule-chain-in, literal-chain-in, belt-reached, rule-reached, literal-reached, leaves-is, records-rise, belt-in-plan, plan-belt, leaving-chain}
-use Rattle.plan.proofs.Naming.{indices-back}
-use Rattle.plan.proofs.Accepted.{accepted-passed, accepted-room}
-use Rattle.plan.proofs.Limits.{belt-among, literal-among, limits-accepted, accepted-limits}
+use Rattle.plan.proofs.LineForms.{Item, belts, rules, literals}
+use Rattle.plan.proofs.ChainLinks.{Linked}
+use Rattle.plan.proofs.ListRising.{Rises}
+use Rattle.plan.proofs.LinePassed.{linked}
+use Rattle.plan.proofs.ChainLaws.{above, chain-end, chain-few, belt-step, rule-step, literal-step, first-belt, next-belt, first-rule, next-rule, first-literal, next-literal, rule-chain-in, literal-chain-in, belt-reached, rule-reached, literal-reached, leaves-is, records-rise, belt-in-plan, plan-belt, leaving-chain}
+use Rattle.plan.proofs.NamedBelts.{indices-back}
+use Rattle.plan.proofs.LineAccepted.{accepted-passed, accepted-room}
+use Rattle.plan.proofs.LineLimits.{belt-among, literal-among, limits-accepted, accepted-limits}
 
 -- ---- the numbers of literals
 

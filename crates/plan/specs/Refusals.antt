@@ -63,7 +63,7 @@ abbrev pub pointers : List Link → ℕ → ℕ
 pointers ls r = count (λ (l : Link). eqb (l .index) r) ls
 
 -- 4: a chain index not below N, not larger than its holder, or of another kind; a record above J reached twice or never.
--- Where the indices rise and lead to the right kinds, a record is reached as often as it is pointed at (proofs/Reached.antt)
+-- Where the indices rise and lead to the right kinds, a record is reached as often as it is pointed at (proofs/ChainReached.antt)
 unfoldable pub broken4 : List ℕ → Bool
 broken4 b =
     any (badLink b) (links b)

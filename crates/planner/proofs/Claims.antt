@@ -24,9 +24,9 @@ use Rattle.search.specs.declared.query.Query.{Query}
 use Rattle.search.specs.Answers.{Request, searchRefusal, Outcome, refused, route, nothing, spent, paused, outcome, replyTo, outAfter}
 use Rattle.search.specs.Values.{requestOf}
 use Rattle.search.specs.Claims.{Answered, IsSpent, openedOf}
-use Rattle.search.proofs.Refusing.{apart, refused-claim, refused-numbered}
-use Rattle.search.proofs.Answering.{ends-claim, accepted-claim}
-use Rattle.search.proofs.Replies.{outcome-by}
+use Rattle.search.proofs.AnswerRefusal.{apart, refused-claim, refused-numbered}
+use Rattle.search.proofs.AnswerOutcome.{ends-claim, accepted-claim}
+use Rattle.search.proofs.AnswerReply.{outcome-by}
 use Rattle.planner.specs.declared.PlannerQuery.{PlannerQuery}
 use Rattle.planner.specs.Interface.{tripOf, queryOf, callOf, toCaller}
 use Rattle.planner.specs.Claims.{IsFound, IsNone, TellsClaim, IgnoresClaim, Claims}

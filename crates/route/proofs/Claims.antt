@@ -1,18 +1,18 @@
 -- The claims of specs/Claims.antt hold, all of them. Assumes nothing.
 use Rattle.route.specs.Claims.{Claims}
-use Rattle.route.proofs.Condition.{order-free}
-use Rattle.route.proofs.Plans.{cost-weight}
-use Rattle.route.proofs.Feasible.{met-claim, permitted-claim, paths-claim}
-use Rattle.route.proofs.Order.{order-claim, upward-claim}
-use Rattle.route.proofs.Enumeration.{routes-claim}
-use Rattle.route.proofs.Firsts.{relaxed-claim}
-use Rattle.route.proofs.Cut.{cut-claim}
-use Rattle.route.proofs.Enforced.{enforced-claim}
-use Rattle.route.proofs.Lowest.{lowest-claim}
-use Rattle.route.proofs.Holding.{mask-claim}
-use Rattle.route.proofs.Readings.{round-trip, one-reading, reading-claim}
-use Rattle.route.proofs.Checked.{instance-claim, first-refusal}
-use Rattle.route.proofs.Solutions.{check-claim, written-claim, writer-claim}
+use Rattle.route.proofs.LcspCondition.{order-free}
+use Rattle.route.proofs.LcspInstance.{cost-weight}
+use Rattle.route.proofs.LcspFeasible.{met-claim, permitted-claim, paths-claim}
+use Rattle.route.proofs.RouteOrder.{order-claim, upward-claim}
+use Rattle.route.proofs.RouteEnumeration.{routes-claim}
+use Rattle.route.proofs.SubproblemFirst.{relaxed-claim}
+use Rattle.route.proofs.SubproblemCut.{cut-claim}
+use Rattle.route.proofs.SubproblemEnforced.{enforced-claim}
+use Rattle.route.proofs.RulesLowest.{lowest-claim}
+use Rattle.route.proofs.RulesNamed.{mask-claim}
+use Rattle.route.proofs.SheetReading.{round-trip, one-reading, reading-claim}
+use Rattle.route.proofs.SheetLines.{instance-claim, first-refusal}
+use Rattle.route.proofs.SheetSolutions.{check-claim, written-claim, writer-claim}
 
 pub claims : Claims
 claims = record {

@@ -1,8 +1,8 @@
 -- The laws of specs/Laws.antt hold, all of them. Assumes nothing.
 use Rattle.route.specs.Laws.{Laws}
-use Rattle.route.proofs.Chosen.{bit-law, masks-law}
-use Rattle.route.proofs.Answered.{answer-law}
-use Rattle.route.proofs.Readings.{read-back}
+use Rattle.route.proofs.MaskChoices.{bit-law, masks-law}
+use Rattle.route.proofs.RelaxAnswer.{answer-law}
+use Rattle.route.proofs.SheetReading.{read-back}
 
 pub laws : Laws
 laws = record {

@@ -8,7 +8,7 @@
 --   contentRefusal p trip v
 --                   the first broken one of lines 11 to 14 (sheetBy), or 0, by what a sheet in the form says
 -- The relaxed route, found from t backwards:
---   Lent b places ends arcs
+--   Lent b places offsets arcs
 --                   the tables are those of the plan b, which is accepted: the places of its named belts, and its adjacency array
 --   isRequired x e, isForbidden x e
 --                   belt e is required, and is forbidden, by the subproblem x

@@ -25,7 +25,7 @@
 -- Left out, since Definition 2.1 does not use them: unassigned variables, that an assignment satisfies a single clause, and formulas that are
 -- unsatisfiable or contradicted. Two arcs with the same ends are two arcs, told apart by their numbers. Weights are natural numbers, where the
 -- document has non-negative ones.
--- That Φ givenAll T does not depend on the order of T is a law (proofs/Condition.antt). Assumes nothing.
+-- That Φ givenAll T does not depend on the order of T is a law (proofs/LcspCondition.antt). Assumes nothing.
 use mathlib.Core.Path.{_≡_}
 use Prim.Native.Nat.{ℕ, _+_, _≤_}
 use mathlib.Core.Bool.{Bool, true, false, not, _&&_, _||_, Bool·beq}

@@ -1,12 +1,12 @@
 -- The claims of specs/Claims.antt hold, all of them. Assumes nothing.
 use Rattle.search.specs.Claims.{Claims}
-use Rattle.search.proofs.Steps.{within-claim}
-use Rattle.search.proofs.Coverage.{coverage-claim, bound-claim, best-claim, any-choice-claim}
-use Rattle.search.proofs.Depth.{depth-claim}
-use Rattle.search.proofs.Uniqueness.{valid-claim}
-use Rattle.search.proofs.Refusing.{refused-claim, limits-claim, unchanged-claim}
-use Rattle.search.proofs.Answering.{ends-claim, right-claim, solves-claim, accepted-claim}
-use Rattle.search.proofs.Sound.{fixes-claim, sound-claim}
+use Rattle.search.proofs.RunSteps.{within-claim}
+use Rattle.search.proofs.RunCoverage.{coverage-claim, bound-claim, best-claim, any-choice-claim}
+use Rattle.search.proofs.RunDepth.{depth-claim}
+use Rattle.search.proofs.SearchUnique.{valid-claim}
+use Rattle.search.proofs.AnswerRefusal.{refused-claim, limits-claim, unchanged-claim}
+use Rattle.search.proofs.AnswerOutcome.{ends-claim, right-claim, solves-claim, accepted-claim}
+use Rattle.search.proofs.RunSound.{fixes-claim, sound-claim}
 
 pub claims : Claims
 claims = record {

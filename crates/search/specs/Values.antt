@@ -15,9 +15,10 @@
 --   Deep p xs           of the waiting subproblems each fixes at least as many named belts as there are older ones
 --   Valid b v           a Search of the plan b: its masks are over the named belts, each waiting subproblem fixes enough of them, the best
 --                       is of belts of the plan, and what is not in use is 0. So equal states are equal values (Claims.antt)
---   Ready b places belts ends arcs exits clauses counts q
---                       the tables of a search are those of the plan b: it is accepted, `places`, `belts` and `counts` are those of its named belts, `ends`
---                       and `arcs` its adjacency array, `exits` the named belts that leave each junction, `clauses` its rules; and s and t are junctions
+--   Ready b places belts offsets arcs exits clauses counts q
+--                       the tables of a search are those of the plan b: it is accepted, `places`, `belts` and `counts` are those of its named belts,
+--                       `offsets` and `arcs` its adjacency array, `exits` the named belts that leave each junction, `clauses` its rules;
+--                       and s and t are junctions
 --   stepIn b q v        one step of the query q from the state that a Search stands for
 --   newestOf v          the masks of the newest subproblem that waits
 --   relaxedIn b q f     the relaxed route of the masks f for the trip q

@@ -8,7 +8,7 @@ use Rattle.route.specs.declared.sheet.Sheet.{Sheet}
 use Rattle.plan.specs.Bounds.{maxSteps}
 use Rattle.route.specs.Sheets.{inForm}
 use Rattle.route.specs.Values.{sheetIn}
-use Rattle.route.proofs.Readings.{form-is, few-belts}
+use Rattle.route.proofs.SheetReading.{form-is, few-belts}
 use Rattle.listing.specs.Lines.{blank, orBlank}
 use borrow.Author.Needs.{needs}
 use Rattle.listing.proofs.read_sheet.Statement.{statement}

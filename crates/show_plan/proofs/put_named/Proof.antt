@@ -5,7 +5,7 @@ use Prim.Native.Nat.{_≤_, _-_}
 use lib.ListN.{length}
 use Rattle.plan.specs.Plan.{planOf, named}
 use Rattle.plan.proofs.Reading.{named-few}
-use Rattle.plan.proofs.Places.{length-listed}
+use Rattle.plan.proofs.NamedPlaces.{length-listed}
 use borrow.Author.Needs.{needs}
 use Rattle.show_plan.proofs.put_named.Statement.{statement}
 use Rattle.show_plan.proofs.put_named.Tie as tie

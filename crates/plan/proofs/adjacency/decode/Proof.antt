@@ -10,7 +10,7 @@ use Rattle.plan.specs.Bounds.{maxJunctions}
 use Rattle.plan.specs.Plan.{planOf, leaving}
 use Rattle.plan.specs.Adjacency.{wordOf, inOrder, arcsIn, offsetsOf}
 use Rattle.plan.proofs.Reading.{plan-sizes}
-use Rattle.plan.proofs.Arcs.{order-few, order-fit, order-next, arcsTo, endsTo, length-arcs, arcs-none, ends-none, arcs-more, offsets-more, arcs-all, ends-all}
+use Rattle.plan.proofs.AdjacencyArcs.{order-few, order-fit, order-next, arcsTo, endsTo, length-arcs, arcs-none, ends-none, arcs-more, offsets-more, arcs-all, ends-all}
 use Rattle.plan.proofs.adjacency.decode.Statement.{statement}
 use Rattle.plan.proofs.adjacency.decode.Tie as tie
 

@@ -10,9 +10,9 @@ use lib.Dec.{leb}
 use Rattle.plan.specs.Lists.{any}
 use Rattle.plan.specs.Records.{field, IsKind, chain}
 use Rattle.plan.specs.Refusals.{backward}
-use Rattle.plan.proofs.Forms.{there, header}
-use Rattle.plan.proofs.Passed.{linked}
-use Rattle.plan.proofs.Chains.{chain-end, belt-step, first-belt, next-belt}
+use Rattle.plan.proofs.LineForms.{there, header}
+use Rattle.plan.proofs.LinePassed.{linked}
+use Rattle.plan.proofs.ChainLaws.{chain-end, belt-step, first-belt, next-belt}
 use Rattle.plan.proofs.belts.backward.Statement.{statement}
 use Rattle.plan.proofs.belts.backward.Tie as tie
 

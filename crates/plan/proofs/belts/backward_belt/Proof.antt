@@ -7,7 +7,7 @@ use Rattle.plan.specs.Lists.{any, upto}
 use Rattle.plan.specs.Records.{junctions}
 use Rattle.plan.specs.Refusals.{backward, broken5}
 use Rattle.plan.proofs.Lists.{any-stop, any-next, any-done}
-use Rattle.plan.proofs.Forms.{sized}
+use Rattle.plan.proofs.LineForms.{sized}
 use Rattle.plan.proofs.belts.backward_belt.Statement.{statement}
 use Rattle.plan.proofs.belts.backward_belt.Tie as tie
 

@@ -6,7 +6,7 @@ use borrow.Author.Tests.{lt-ltb, le-ltb, le-leb, lt-leb}
 use native.Mathlib.Omega.{arith}
 use lib.Dec.{eqb, leb}
 use Rattle.plan.specs.Records.{field, kind, records, modes}
-use Rattle.plan.proofs.Literals.{fits-belt, fits-mode}
+use Rattle.plan.proofs.LineLiterals.{fits-belt, fits-mode}
 use Rattle.plan.proofs.belts.literal_fits.Statement.{statement}
 use Rattle.plan.proofs.belts.literal_fits.Tie as tie
 

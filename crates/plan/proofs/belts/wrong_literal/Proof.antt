@@ -8,7 +8,7 @@ use Rattle.plan.specs.Lists.{any, upto}
 use Rattle.plan.specs.Records.{records, junctions}
 use Rattle.plan.specs.Refusals.{misnames, broken6}
 use Rattle.plan.proofs.Lists.{any-stop, any-next, any-done}
-use Rattle.plan.proofs.Forms.{sized}
+use Rattle.plan.proofs.LineForms.{sized}
 use Rattle.plan.proofs.belts.wrong_literal.Statement.{statement}
 use Rattle.plan.proofs.belts.wrong_literal.Tie as tie
 

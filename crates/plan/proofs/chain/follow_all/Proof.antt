@@ -8,7 +8,7 @@ use Rattle.plan.specs.Lists.{any, joined, upto}
 use Rattle.plan.specs.Records.{linksAt, links}
 use Rattle.plan.specs.Refusals.{badLink}
 use Rattle.plan.specs.Inner.{marked}
-use Rattle.plan.proofs.Marks.{pass-stop, pass-next, pass-done, marks-next, marks-done}
+use Rattle.plan.proofs.ChainMarks.{pass-stop, pass-next, pass-done, marks-next, marks-done}
 use Rattle.plan.proofs.chain.follow_all.Statement.{statement}
 use Rattle.plan.proofs.chain.follow_all.Tie as tie
 

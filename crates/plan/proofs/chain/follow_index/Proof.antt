@@ -1,11 +1,11 @@
--- `plan::chain::follow_index` meets its contract: each return is a law of Marks.antt at the tests that led there. Assumes nothing.
+-- `plan::chain::follow_index` meets its contract: each return is a law of ChainMarks.antt at the tests that led there. Assumes nothing.
 use mathlib.Core.Path.{sym, ap, _∙_}
 use mathlib.Core.Bool.{true≢false}
 use borrow.Author.Needs.{needs}
 use native.Mathlib.Omega.{arith}
 use lib.ListN.{set}
 use Rattle.plan.specs.Inner.{marked}
-use Rattle.plan.proofs.Marks.{linkTo-none, linkTo-one, follow-zero, follow-far, follow-back, follow-kind, follow-well}
+use Rattle.plan.proofs.ChainMarks.{linkTo-none, linkTo-one, follow-zero, follow-far, follow-back, follow-kind, follow-well}
 use Rattle.plan.proofs.chain.follow_index.Statement.{statement}
 use Rattle.plan.proofs.chain.follow_index.Tie as tie
 

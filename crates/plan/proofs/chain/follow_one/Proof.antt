@@ -2,8 +2,8 @@
 use mathlib.Core.Path.{_∙_, ap}
 use borrow.Author.Needs.{needs}
 use Rattle.plan.specs.Records.{linkTo}
-use Rattle.plan.proofs.Links.{one-link}
-use Rattle.plan.proofs.Marks.{followed-as}
+use Rattle.plan.proofs.ChainLinks.{one-link}
+use Rattle.plan.proofs.ChainMarks.{followed-as}
 use Rattle.plan.proofs.chain.follow_one.Statement.{statement}
 use Rattle.plan.proofs.chain.follow_one.Tie as tie
 

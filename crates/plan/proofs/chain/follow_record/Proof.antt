@@ -6,9 +6,9 @@ use borrow.Author.Needs.{needs}
 use Rattle.plan.specs.Lists.{mem}
 use Rattle.plan.specs.Records.{junctions, rowOf}
 use Rattle.plan.specs.Inner.{linksBy}
-use Rattle.plan.proofs.Forms.{kinds}
-use Rattle.plan.proofs.Links.{no-targets}
-use Rattle.plan.proofs.Marks.{followed-as, followed-kind}
+use Rattle.plan.proofs.LineForms.{kinds}
+use Rattle.plan.proofs.ChainLinks.{no-targets}
+use Rattle.plan.proofs.ChainMarks.{followed-as, followed-kind}
 use Rattle.plan.proofs.chain.follow_record.Statement.{statement}
 use Rattle.plan.proofs.chain.follow_record.Tie as tie
 

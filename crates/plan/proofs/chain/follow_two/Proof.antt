@@ -2,8 +2,8 @@
 use borrow.Author.Needs.{needs}
 use mathlib.Core.List.{[], _∷_, _++_}
 use Rattle.plan.specs.Inner.{linksBy}
-use Rattle.plan.proofs.Links.{two-links}
-use Rattle.plan.proofs.Marks.{followed-as, followed-stop, followed-next}
+use Rattle.plan.proofs.ChainLinks.{two-links}
+use Rattle.plan.proofs.ChainMarks.{followed-as, followed-stop, followed-next}
 use Rattle.plan.proofs.chain.follow_two.Statement.{statement}
 use Rattle.plan.proofs.chain.follow_two.Tie as tie
 

@@ -11,8 +11,8 @@ use Rattle.plan.specs.Lists.{any, upto}
 use Rattle.plan.specs.Records.{records, junctions, links}
 use Rattle.plan.specs.Refusals.{pointers, broken4}
 use Rattle.plan.specs.Inner.{markedOnce}
-use Rattle.plan.proofs.Forms.{sized}
-use Rattle.plan.proofs.Marks.{unmet-same}
+use Rattle.plan.proofs.LineForms.{sized}
+use Rattle.plan.proofs.ChainMarks.{unmet-same}
 use Rattle.plan.proofs.chain.wrong_chain.Statement.{statement}
 use Rattle.plan.proofs.chain.wrong_chain.Tie as tie
 

@@ -5,7 +5,7 @@ use mathlib.Core.Bool.{false}
 use borrow.Author.Needs.{needs}
 use Rattle.plan.specs.Refusals.{broken1, broken3, broken5}
 use Rattle.plan.specs.Inner.{Passed2, Passed4, Passed6}
-use Rattle.plan.proofs.Accepted.{refused-1, refused-2, refused-3, refused-4, refused-5, refused-6, refused-7, passed-accepted}
+use Rattle.plan.proofs.LineAccepted.{refused-1, refused-2, refused-3, refused-4, refused-5, refused-6, refused-7, passed-accepted}
 use Rattle.plan.proofs.check.check.Statement.{statement}
 use Rattle.plan.proofs.check.check.Tie as tie
 

@@ -8,7 +8,7 @@ use borrow.Author.Tests.{ne-eqb}
 use native.Mathlib.Omega.{arith}
 use Rattle.plan.specs.Records.{kind, fits}
 use Rattle.plan.specs.Refusals.{rightKind}
-use Rattle.plan.proofs.Forms.{kind-low, kind-high}
+use Rattle.plan.proofs.LineForms.{kind-low, kind-high}
 use Rattle.plan.proofs.form.right_record.Statement.{statement}
 use Rattle.plan.proofs.form.right_record.Tie as tie
 

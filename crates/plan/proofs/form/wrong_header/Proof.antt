@@ -10,7 +10,7 @@ use lib.Dec.{ltb}
 use Rattle.plan.specs.Records.{field}
 use Rattle.plan.specs.Refusals.{broken1, broken2}
 use Rattle.plan.proofs.Lists.{leb-not}
-use Rattle.plan.proofs.Forms.{sized}
+use Rattle.plan.proofs.LineForms.{sized}
 use Rattle.plan.proofs.form.wrong_header.Statement.{statement}
 use Rattle.plan.proofs.form.wrong_header.Tie as tie
 

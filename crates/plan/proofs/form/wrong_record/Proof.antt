@@ -11,7 +11,7 @@ use Rattle.plan.specs.Records.{field, records, junctions, fits}
 use Rattle.plan.specs.Refusals.{broken3, rightKind}
 use Rattle.plan.specs.Inner.{Passed2}
 use Rattle.plan.proofs.Lists.{any-stop, any-next, any-done}
-use Rattle.plan.proofs.Forms.{sized, there}
+use Rattle.plan.proofs.LineForms.{sized, there}
 use Rattle.plan.proofs.form.wrong_record.Statement.{statement}
 use Rattle.plan.proofs.form.wrong_record.Tie as tie
 

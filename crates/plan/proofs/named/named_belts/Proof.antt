@@ -13,11 +13,11 @@ use Rattle.plan.specs.Bounds.{maxNamed, maxRecords}
 use Rattle.plan.specs.Lists.{keep, upto}
 use Rattle.plan.specs.Plan.{planOf, named, beltId, listed}
 use Rattle.plan.specs.Inner.{markedOnce}
-use Rattle.plan.proofs.Counts.{keep-first, keep-rest, keep-done}
-use Rattle.plan.proofs.Forms.{few, sized}
-use Rattle.plan.proofs.Naming.{few-named, kept-named}
-use Rattle.plan.proofs.Accepted.{accepted-passed}
-use Rattle.plan.proofs.Places.{listed-sets}
+use Rattle.plan.proofs.ListCounts.{keep-first, keep-rest, keep-done}
+use Rattle.plan.proofs.LineForms.{few, sized}
+use Rattle.plan.proofs.NamedBelts.{few-named, kept-named}
+use Rattle.plan.proofs.LineAccepted.{accepted-passed}
+use Rattle.plan.proofs.NamedPlaces.{listed-sets}
 use Rattle.plan.proofs.named.named_belts.Statement.{statement}
 use Rattle.plan.proofs.named.named_belts.Tie as tie
 

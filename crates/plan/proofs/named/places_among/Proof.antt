@@ -10,10 +10,10 @@ use lib.Seq.{drop-cons}
 use Rattle.plan.specs.Bounds.{maxNamed, maxRecords}
 use Rattle.plan.specs.declared.read.BeltId.{BeltId}
 use Rattle.plan.specs.Plan.{planOf, named, placesOf, beltId}
-use Rattle.plan.proofs.Forms.{few}
-use Rattle.plan.proofs.Naming.{few-named, named-rises, named-in}
-use Rattle.plan.proofs.Accepted.{accepted-passed}
-use Rattle.plan.proofs.Places.{listed-at, numbered, numbered-places}
+use Rattle.plan.proofs.LineForms.{few}
+use Rattle.plan.proofs.NamedBelts.{few-named, named-rises, named-in}
+use Rattle.plan.proofs.LineAccepted.{accepted-passed}
+use Rattle.plan.proofs.NamedPlaces.{listed-at, numbered, numbered-places}
 use Rattle.plan.proofs.named.places_among.Statement.{statement}
 use Rattle.plan.proofs.named.places_among.Tie as tie
 

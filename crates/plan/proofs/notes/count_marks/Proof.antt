@@ -8,7 +8,7 @@ use native.Mathlib.Omega.{arith}
 use lib.ListN.{getD}
 use Rattle.plan.specs.Lists.{countBy, count, upto}
 use Rattle.plan.specs.Inner.{markedOnce}
-use Rattle.plan.proofs.Counts.{count-step, count-done}
+use Rattle.plan.proofs.ListCounts.{count-step, count-done}
 use Rattle.plan.proofs.notes.count_marks.Statement.{statement}
 use Rattle.plan.proofs.notes.count_marks.Tie as tie
 

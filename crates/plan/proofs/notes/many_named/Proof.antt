@@ -8,8 +8,8 @@ use Rattle.plan.specs.Lists.{count, upto}
 use Rattle.plan.specs.Bounds.{maxRecords, maxNamed}
 use Rattle.plan.specs.Inner.{markedOnce, notes}
 use Rattle.plan.specs.Refusals.{broken7}
-use Rattle.plan.proofs.Forms.{few, sized}
-use Rattle.plan.proofs.Naming.{length-notes, named-count}
+use Rattle.plan.proofs.LineForms.{few, sized}
+use Rattle.plan.proofs.NamedBelts.{length-notes, named-count}
 use Rattle.plan.proofs.notes.many_named.Statement.{statement}
 use Rattle.plan.proofs.notes.many_named.Tie as tie
 

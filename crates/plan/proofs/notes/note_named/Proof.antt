@@ -11,8 +11,8 @@ use Rattle.plan.specs.Bounds.{maxRecords}
 use Rattle.plan.specs.Lists.{upto}
 use Rattle.plan.specs.Records.{field, junctions, records}
 use Rattle.plan.specs.Inner.{namesBelt, note, noted}
-use Rattle.plan.proofs.Forms.{few, there, sized}
-use Rattle.plan.proofs.Naming.{names-record, noted-step, noted-done, length-note}
+use Rattle.plan.proofs.LineForms.{few, there, sized}
+use Rattle.plan.proofs.NamedBelts.{names-record, noted-step, noted-done, length-note}
 use Rattle.plan.proofs.notes.note_named.Statement.{statement}
 use Rattle.plan.proofs.notes.note_named.Tie as tie
 

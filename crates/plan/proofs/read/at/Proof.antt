@@ -1,6 +1,6 @@
 -- `plan::read::at` meets its contract. Assumes nothing.
 use borrow.Author.Needs.{needs}
-use Rattle.plan.proofs.Accepted.{accepted-there}
+use Rattle.plan.proofs.LineAccepted.{accepted-there}
 use Rattle.plan.proofs.read.at.Statement.{statement}
 use Rattle.plan.proofs.read.at.Tie as tie
 

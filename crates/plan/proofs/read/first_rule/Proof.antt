@@ -1,7 +1,7 @@
 -- `plan::read::first_rule` meets its contract. Assumes nothing.
 use borrow.Author.Needs.{needs}
 use native.Mathlib.Omega.{arith}
-use Rattle.plan.proofs.Accepted.{accepted-room}
+use Rattle.plan.proofs.LineAccepted.{accepted-room}
 use Rattle.plan.proofs.read.first_rule.Statement.{statement}
 use Rattle.plan.proofs.read.first_rule.Tie as tie
 

@@ -4,7 +4,7 @@ use Prim.Native.Nat.{ℕ}
 use lib.Dec.{eqb}
 use native.Mathlib.Omega.{arith}
 use borrow.Author.Needs.{needs}
-use Rattle.plan.proofs.Accepted.{accepted-room, accepted-there}
+use Rattle.plan.proofs.LineAccepted.{accepted-room, accepted-there}
 use Rattle.plan.proofs.Reading.{not-indexed, indexed-is}
 use Rattle.plan.proofs.read.is_belt.Statement.{statement}
 use Rattle.plan.proofs.read.is_belt.Tie as tie

@@ -2,7 +2,7 @@
 use borrow.Author.Needs.{needs}
 use native.Mathlib.Omega.{arith}
 use Rattle.plan.specs.Plan.{planOf}
-use Rattle.plan.proofs.Accepted.{accepted-room}
+use Rattle.plan.proofs.LineAccepted.{accepted-room}
 use Rattle.plan.proofs.read.junctions.Statement.{statement}
 use Rattle.plan.proofs.read.junctions.Tie as tie
 

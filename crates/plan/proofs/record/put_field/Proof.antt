@@ -1,7 +1,7 @@
 -- `plan::record::put_field` meets its contract. Assumes nothing.
 use native.Mathlib.Omega.{arith}
 use lib.ListN.{length-set}
-use Rattle.plan.proofs.Writing.{stored-field}
+use Rattle.plan.proofs.RecordWriting.{stored-field}
 use borrow.Author.Needs.{needs}
 use Rattle.plan.proofs.record.put_field.Statement.{statement}
 use Rattle.plan.proofs.record.put_field.Tie as tie

@@ -4,7 +4,7 @@ use Prim.Native.Nat.{_+_, _*_}
 use mathlib.Core.List.{_++_}
 use native.Mathlib.Omega.{arith}
 use Rattle.plan.specs.Records.{fieldBytes}
-use Rattle.plan.proofs.Writing.{behind}
+use Rattle.plan.proofs.RecordWriting.{behind}
 use borrow.Author.Needs.{needs}
 use Rattle.plan.proofs.record.put_record.Statement.{statement}
 use Rattle.plan.proofs.record.put_record.Tie as tie

@@ -5,7 +5,7 @@ use borrow.Author.Tests.{ne-eqb}
 use borrow.Author.Needs.{needs}
 use Rattle.plan.specs.Lists.{mem, within}
 use Rattle.plan.specs.Records.{field, rowOf}
-use Rattle.plan.proofs.Forms.{kinds, fits-as, other-fits}
+use Rattle.plan.proofs.LineForms.{kinds, fits-as, other-fits}
 use Rattle.plan.proofs.table.fits.Statement.{statement}
 use Rattle.plan.proofs.table.fits.Tie as tie
 

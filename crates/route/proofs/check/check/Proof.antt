@@ -8,14 +8,14 @@ use borrow.Author.Tests.{not-true, not-false}
 use Rattle.plan.specs.Refusals.{refusal, numberOf}
 use Rattle.plan.specs.Claims.{Unbroken}
 use Rattle.plan.specs.Reading.{Accepted}
-use Rattle.plan.proofs.Numbers.{nonzero}
+use Rattle.plan.proofs.LineNumbers.{nonzero}
 use Rattle.route.specs.declared.sheet.Sheet.{Sheet}
 use Rattle.route.specs.Refusals.{Case, planTrip, tripLines}
 use Rattle.route.specs.Values.{idsOf, caseOf}
 use Rattle.route.specs.Sheets.{inForm, beltsOn}
-use Rattle.route.proofs.ByName.{ids-packed}
-use Rattle.route.proofs.Readings.{form-is, few-belts}
-use Rattle.route.proofs.Checked.{ends-trip, trip-plan, trip-8, trip-refused, no-form, content-refused, ends-wrong, ends-fine}
+use Rattle.route.proofs.RouteIndices.{ids-packed}
+use Rattle.route.proofs.SheetReading.{form-is, few-belts}
+use Rattle.route.proofs.SheetLines.{ends-trip, trip-plan, trip-8, trip-refused, no-form, content-refused, ends-wrong, ends-fine}
 use Rattle.route.proofs.check.check.Statement.{statement}
 use Rattle.route.proofs.check.check.Tie as tie
 

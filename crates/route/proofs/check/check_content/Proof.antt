@@ -11,7 +11,7 @@ use Rattle.route.specs.Routes.{connects, cost}
 use Rattle.route.specs.Permission.{passes, termsOf, works}
 use Rattle.route.specs.Values.{idsOf, Known, routeIn}
 use Rattle.route.specs.Inner.{sheetBy}
-use Rattle.route.proofs.ByName.{known-belts, ends-junctions}
+use Rattle.route.proofs.RouteIndices.{known-belts, ends-junctions}
 use Rattle.route.proofs.check.check_content.Statement.{statement}
 use Rattle.route.proofs.check.check_content.Tie as tie
 

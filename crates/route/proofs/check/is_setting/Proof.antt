@@ -5,7 +5,7 @@ use native.Mathlib.Omega.{arith}
 use lib.Dec.{ltb}
 use borrow.Author.Needs.{needs}
 use Rattle.plan.proofs.Reading.{plan-sizes}
-use Rattle.route.proofs.Bits.{shifted}
+use Rattle.route.proofs.MaskBits.{shifted}
 use Rattle.route.proofs.check.is_setting.Statement.{statement}
 use Rattle.route.proofs.check.is_setting.Tie as tie
 

@@ -10,8 +10,8 @@ use Rattle.plan.specs.Bounds.{fieldLimit, maxRecords}
 use Rattle.plan.specs.Reading.{IsRule, rulesFrom}
 use Rattle.plan.proofs.Reading.{records-more, rule-low}
 use Rattle.route.specs.Values.{clausesIn}
-use Rattle.route.proofs.Ahead.{rule-shorter}
-use Rattle.route.proofs.Entries.{RulesStored, rules-start, rules-stored, rules-size, rules-end, next-rule-low, first-literal-low}
+use Rattle.route.proofs.RulesScan.{rule-shorter}
+use Rattle.route.proofs.RulesEntries.{RulesStored, rules-start, rules-stored, rules-size, rules-end, next-rule-low, first-literal-low}
 use Rattle.route.proofs.clauses.decode.Statement.{statement}
 use Rattle.route.proofs.clauses.decode.Tie as tie
 

@@ -11,9 +11,9 @@ use Rattle.plan.specs.Reading.{IsLiteral, literalChain, literalsFrom}
 use Rattle.plan.proofs.Reading.{literal-low}
 use Rattle.route.specs.Values.{codeIn, entryOf}
 use Rattle.route.specs.Inner.{Codable, stores}
-use Rattle.route.proofs.Codes.{codable-low, literal-codable}
-use Rattle.route.proofs.Ahead.{literal-shorter}
-use Rattle.route.proofs.Entries.{LiteralsStored, literals-start, literals-stored, literals-size, literals-end, next-literal-low}
+use Rattle.route.proofs.RulesCodes.{codable-low, literal-codable}
+use Rattle.route.proofs.RulesScan.{literal-shorter}
+use Rattle.route.proofs.RulesEntries.{LiteralsStored, literals-start, literals-stored, literals-size, literals-end, next-literal-low}
 use Rattle.route.proofs.clauses.put_literals.Statement.{statement}
 use Rattle.route.proofs.clauses.put_literals.Tie as tie
 

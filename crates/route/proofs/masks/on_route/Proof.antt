@@ -8,7 +8,7 @@ use lib.ListN.{length, getD, drop}
 use Rattle.plan.specs.Bounds.{maxRecords}
 use Rattle.plan.specs.Plan.{beltId, placeIn}
 use Rattle.route.specs.Values.{idsOf, withPlace, LowPlace, gatheredIn}
-use Rattle.route.proofs.Held.{places, ids-next, ids-end, ids-at}
+use Rattle.route.proofs.RouteBelts.{places, ids-next, ids-end, ids-at}
 use Rattle.route.proofs.masks.on_route.Statement.{statement}
 use Rattle.route.proofs.masks.on_route.Tie as tie
 

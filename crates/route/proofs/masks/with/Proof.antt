@@ -3,7 +3,7 @@ use mathlib.Core.Path.{subst, sym, ap, _∙_}
 use borrow.Author.Needs.{needs}
 use lib.Bits.{bitOr}
 use Rattle.route.specs.Values.{LowPlace, withPlace}
-use Rattle.route.proofs.Bits.{shifted}
+use Rattle.route.proofs.MaskBits.{shifted}
 use Rattle.route.proofs.masks.with.Statement.{statement}
 use Rattle.route.proofs.masks.with.Tie as tie
 

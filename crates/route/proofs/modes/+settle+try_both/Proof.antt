@@ -9,7 +9,7 @@ use Rattle.plan.specs.Lists.{iota}
 use Rattle.plan.specs.Plan.{planOf}
 use Rattle.route.specs.Permission.{allMet, find, otherwise}
 use Rattle.route.specs.Values.{settingIn, hasBelt}
-use Rattle.route.proofs.Lowest.{halves, weight, settle-none, settle-both}
+use Rattle.route.proofs.RulesLowest.{halves, weight, settle-none, settle-both}
 use Prim.Native.Nat.{ℕ, _+_, _*_, _-_, _^_, _<_}
 use borrow.Fn.Kinds.{In}
 use borrow.Fn.PlainCycle.{Measures, is, falls, and}

@@ -8,7 +8,7 @@ use Rattle.plan.specs.Plan.{planOf}
 use Rattle.plan.proofs.Reading.{plan-sizes}
 use Rattle.route.specs.Permission.{find, planTerms, works}
 use Rattle.route.specs.Values.{hasBelt}
-use Rattle.route.proofs.Lowest.{all-modes}
+use Rattle.route.proofs.RulesLowest.{all-modes}
 use Rattle.route.proofs.modes.lowest_setting.Statement.{statement}
 use Rattle.route.proofs.modes.lowest_setting.Tie as tie
 

@@ -9,7 +9,7 @@ use lib.ListN.{length, drop}
 use Rattle.plan.specs.Lists.{all, mem}
 use Rattle.plan.specs.Plan.{planOf, indicesOf}
 use Rattle.route.specs.Values.{idsOf}
-use Rattle.route.proofs.Held.{places, ids-next, ids-end}
+use Rattle.route.proofs.RouteBelts.{places, ids-next, ids-end}
 use Rattle.route.proofs.path.are_belts.Statement.{statement}
 use Rattle.route.proofs.path.are_belts.Tie as tie
 

@@ -3,7 +3,7 @@ use mathlib.Core.Path.{sym, _∙_}
 use borrow.Author.Needs.{needs}
 use Rattle.route.specs.Routes.{first, lower}
 use Rattle.route.specs.Values.{routeIn}
-use Rattle.route.proofs.Order.{first-eq, first-ne, lower-known}
+use Rattle.route.proofs.RouteOrder.{first-eq, first-ne, lower-known}
 use Rattle.route.proofs.path.before.Statement.{statement}
 use Rattle.route.proofs.path.before.Tie as tie
 

@@ -11,7 +11,7 @@ use Rattle.plan.specs.Plan.{planOf, beltAt, beltId}
 use Rattle.plan.proofs.Reading.{belt-in, belt-ends}
 use Rattle.route.specs.Routes.{connects}
 use Rattle.route.specs.Values.{routeIn}
-use Rattle.route.proofs.Held.{places, left, left-start, left-next, left-end, at-belt}
+use Rattle.route.proofs.RouteBelts.{places, left, left-start, left-next, left-end, at-belt}
 use Rattle.route.proofs.path.connects.Statement.{statement}
 use Rattle.route.proofs.path.connects.Tie as tie
 

@@ -6,7 +6,7 @@ use borrow.Author.Needs.{needs}
 use lib.ListN.{length}
 use Rattle.route.specs.Routes.{cost}
 use Rattle.route.specs.Values.{routeIn}
-use Rattle.route.proofs.Held.{places, left, left-start, left-next, left-end, at-belt}
+use Rattle.route.proofs.RouteBelts.{places, left, left-start, left-next, left-end, at-belt}
 use Rattle.route.proofs.path.cost.Statement.{statement}
 use Rattle.route.proofs.path.cost.Tie as tie
 

@@ -14,8 +14,8 @@ use Rattle.route.specs.declared.path.Route.{Route}
 use Rattle.route.specs.Routes.{first}
 use Rattle.route.specs.Values.{idsOf}
 use Rattle.route.specs.Inner.{lowerIds}
-use Rattle.route.proofs.Order.{first-eq, first-ne}
-use Rattle.route.proofs.Held.{places, ids-next, ids-end}
+use Rattle.route.proofs.RouteOrder.{first-eq, first-ne}
+use Rattle.route.proofs.RouteBelts.{places, ids-next, ids-end}
 use Rattle.route.proofs.path.lower.Statement.{statement}
 use Rattle.route.proofs.path.lower.Tie as tie
 

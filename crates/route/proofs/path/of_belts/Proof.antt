@@ -10,7 +10,7 @@ use lib.Seq.{length-take-le, drop-cons, getD-take, sets}
 use Rattle.plan.specs.Bounds.{maxSteps}
 use Rattle.plan.specs.Plan.{beltId}
 use Rattle.route.specs.Values.{packed}
-use Rattle.route.proofs.ByName.{packed-sets}
+use Rattle.route.proofs.RouteIndices.{packed-sets}
 use Rattle.route.proofs.path.of_belts.Statement.{statement}
 use Rattle.route.proofs.path.of_belts.Tie as tie
 

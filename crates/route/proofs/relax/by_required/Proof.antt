@@ -1,5 +1,5 @@
 -- `route::relax::by_required` meets its contract: the belt at the lowest place of the mask is the first required one that leaves the junction, and the
--- mask tells whether there is a second one (Hits.antt). Assumes nothing.
+-- mask tells whether there is a second one (RelaxHits.antt). Assumes nothing.
 use mathlib.Core.Path.{_≡_, sym, _∙_, ap, subst}
 use mathlib.Core.Bool.{true}
 use Prim.Native.Nat.{ℕ, _<_}
@@ -13,9 +13,9 @@ use Rattle.plan.specs.Reading.{IsBelt}
 use Rattle.plan.proofs.Reading.{plan-sizes, named-few}
 use Rattle.route.specs.Routes.{costLimit}
 use Rattle.route.specs.Inner.{wayOver, costsIn}
-use Rattle.route.proofs.Bits.{shifted}
-use Rattle.route.proofs.Looking.{made}
-use Rattle.route.proofs.Hits.{lowest-place, lowest-number, lowest-belt, way-only, way-shut}
+use Rattle.route.proofs.MaskBits.{shifted}
+use Rattle.route.proofs.RelaxScan.{made}
+use Rattle.route.proofs.RelaxHits.{lowest-place, lowest-number, lowest-belt, way-only, way-shut}
 use Rattle.route.proofs.relax.by_required.Statement.{statement}
 use Rattle.route.proofs.relax.by_required.Tie as tie
 

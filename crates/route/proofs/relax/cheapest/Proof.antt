@@ -1,5 +1,5 @@
 -- `route::relax::cheapest` meets its contract. Invariant: folding the belts still unread over the best way so far gives the same result as folding
--- all belts of the junction over `noWay` (Cheapest.antt). Assumes nothing.
+-- all belts of the junction over `noWay` (RelaxCheapest.antt). Assumes nothing.
 use mathlib.Core.Path.{_≡_, sym, _∙_, ap, subst, subst₂}
 use mathlib.Core.Logic.{inl, inr, ⊎-elim}
 use mathlib.Core.Bool.{_||_}
@@ -19,10 +19,10 @@ use Rattle.plan.proofs.Reading.{plan-sizes, belts-cost}
 use Rattle.route.specs.declared.relax.Fixings.{Fixings}
 use Rattle.route.specs.Values.{inMask, subproblemIn}
 use Rattle.route.specs.Inner.{isForbidden, noWay, wayBy, costsIn}
-use Rattle.route.proofs.Fixed.{fixed-mem}
-use Rattle.route.proofs.Kept.{cost-at}
-use Rattle.route.proofs.Cheapest.{Cheap, cheap-start, cheap-taken, cheap-passed, cheap-end}
-use Rattle.route.proofs.Spans.{Left, Next, end-low, left-start, left-next, left-end, arc-low, arc-place}
+use Rattle.route.proofs.MaskFixings.{fixed-mem}
+use Rattle.route.proofs.RelaxWays.{cost-at}
+use Rattle.route.proofs.RelaxCheapest.{Cheap, cheap-start, cheap-taken, cheap-passed, cheap-end}
+use Rattle.route.proofs.RelaxArcs.{Left, Next, end-low, left-start, left-next, left-end, arc-low, arc-place}
 use Rattle.route.proofs.relax.cheapest.Statement.{statement}
 use Rattle.route.proofs.relax.cheapest.Tie as tie
 

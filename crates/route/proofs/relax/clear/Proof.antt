@@ -2,7 +2,7 @@
 use Prim.Native.Nat.{_-_}
 use native.Mathlib.Omega.{arith}
 use Rattle.route.specs.Inner.{Spared}
-use Rattle.route.proofs.Kept.{spared-next, spared-cleared}
+use Rattle.route.proofs.RelaxWays.{spared-next, spared-cleared}
 use Rattle.route.proofs.relax.clear.Statement.{statement}
 use Rattle.route.proofs.relax.clear.Tie as tie
 

@@ -4,7 +4,7 @@ use Prim.Native.Nat.{_+_, _-_, _≤_, _<_}
 use native.Mathlib.Omega.{arith}
 use Rattle.plan.specs.Bounds.{junctionPlaces}
 use Rattle.plan.proofs.Reading.{plan-sizes}
-use Rattle.route.proofs.Exits.{Filled, filled-start, filled-next, filled-end}
+use Rattle.route.proofs.RelaxExits.{Filled, filled-start, filled-next, filled-end}
 use Rattle.route.proofs.relax.exits.Statement.{statement}
 use Rattle.route.proofs.relax.exits.Tie as tie
 

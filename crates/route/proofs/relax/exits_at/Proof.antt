@@ -12,7 +12,7 @@ use Rattle.plan.specs.Adjacency.{wordIndex}
 use Rattle.plan.specs.Reading.{Bytes}
 use Rattle.plan.proofs.Reading.{plan-sizes}
 use Rattle.route.specs.Values.{namedPlaces, gatheredIn, withPlace, LowPlace}
-use Rattle.route.proofs.Spans.{Left, Next, end-low, left-start, left-next, left-end, arc-low, arc-place}
+use Rattle.route.proofs.RelaxArcs.{Left, Next, end-low, left-start, left-next, left-end, arc-low, arc-place}
 use Rattle.route.proofs.relax.exits_at.Statement.{statement}
 use Rattle.route.proofs.relax.exits_at.Tie as tie
 

@@ -1,7 +1,7 @@
 -- `route::relax::first_of` meets its contract: the belt is the remainder of a junction's word. Assumes nothing.
 use mathlib.Core.Path.{sym}
 use borrow.Author.Needs.{needs}
-use Rattle.route.proofs.Kept.{first-at}
+use Rattle.route.proofs.RelaxWays.{first-at}
 use Rattle.route.proofs.relax.first_of.Statement.{statement}
 use Rattle.route.proofs.relax.first_of.Tie as tie
 

@@ -14,10 +14,10 @@ use Rattle.plan.proofs.Reading.{plan-sizes}
 use Rattle.route.specs.Subproblems.{Subproblem}
 use Rattle.route.specs.Values.{subproblemIn, exitsOf}
 use Rattle.route.specs.Inner.{joinedIn}
-use Rattle.route.proofs.ByName.{ends-junctions}
-use Rattle.route.proofs.Fixed.{fixed-belt}
-use Rattle.route.proofs.Onward.{relaxed-past, way-relaxed, unowed-relaxed}
-use Rattle.route.proofs.Exits.{inside-owed, owed-inside}
+use Rattle.route.proofs.RouteIndices.{ends-junctions}
+use Rattle.route.proofs.MaskFixings.{fixed-belt}
+use Rattle.route.proofs.RelaxOnward.{relaxed-past, way-relaxed, unowed-relaxed}
+use Rattle.route.proofs.RelaxExits.{inside-owed, owed-inside}
 use Rattle.route.proofs.relax.may_lead.Statement.{statement}
 use Rattle.route.proofs.relax.may_lead.Tie as tie
 

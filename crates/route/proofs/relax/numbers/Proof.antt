@@ -10,7 +10,7 @@ use lib.Seq.{getD-set-same, getD-set-other, ext-getD}
 use Rattle.plan.specs.declared.read.BeltId.{BeltId}
 use Rattle.plan.specs.Bounds.{maxNamed}
 use Rattle.plan.specs.Plan.{planOf, named, beltId, listed}
-use Rattle.plan.proofs.Places.{length-listed}
+use Rattle.plan.proofs.NamedPlaces.{length-listed}
 use Rattle.plan.proofs.Reading.{named-few}
 use Rattle.route.specs.Values.{numbersOf}
 use Rattle.route.proofs.relax.numbers.Statement.{statement}

@@ -13,8 +13,8 @@ use Rattle.plan.proofs.Reading.{plan-sizes}
 use Rattle.route.specs.Subproblems.{relaxed}
 use Rattle.route.specs.Values.{subproblemIn, atMost, summaryAs, walkedOf}
 use Rattle.route.specs.Inner.{wayIn, wayCost}
-use Rattle.route.proofs.ByName.{ends-junctions}
-use Rattle.route.proofs.Bounded.{at-most-lost, at-most-found}
+use Rattle.route.proofs.RouteIndices.{ends-junctions}
+use Rattle.route.proofs.RelaxBound.{at-most-lost, at-most-found}
 use Rattle.route.proofs.relax.relaxed_route.Statement.{statement}
 use Rattle.route.proofs.relax.relaxed_route.Tie as tie
 

@@ -12,8 +12,8 @@ use Rattle.plan.proofs.Reading.{plan-sizes, belt-low}
 use Rattle.route.specs.declared.relax.Fixings.{Fixings}
 use Rattle.route.specs.Values.{withPlace, LowPlace, namedPlaces}
 use Rattle.route.specs.Inner.{wayIn, wayCost, Guides, firstsIn}
-use Rattle.route.proofs.Fixed.{place-low, looked-up}
-use Rattle.route.proofs.Walked.{Walked, Step, walked-start, walked-next, walked-whole}
+use Rattle.route.proofs.MaskFixings.{place-low, looked-up}
+use Rattle.route.proofs.RelaxWalk.{Walked, Step, walked-start, walked-next, walked-whole}
 use Rattle.route.proofs.relax.walk.Statement.{statement}
 use Rattle.route.proofs.relax.walk.Tie as tie
 

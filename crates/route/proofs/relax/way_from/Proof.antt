@@ -8,7 +8,7 @@ use lib.Bits.{bitAnd}
 use lib.ListN.{getD}
 use Rattle.plan.specs.Bounds.{junctionPlaces}
 use Rattle.plan.proofs.Reading.{plan-sizes}
-use Rattle.route.proofs.Exits.{none-required}
+use Rattle.route.proofs.RelaxExits.{none-required}
 use Rattle.route.proofs.relax.way_from.Statement.{statement}
 use Rattle.route.proofs.relax.way_from.Tie as tie
 

@@ -10,8 +10,8 @@ use Rattle.plan.specs.Bounds.{junctionPlaces}
 use Rattle.plan.specs.Plan.{Belt, beltAt}
 use Rattle.plan.proofs.Reading.{plan-sizes, belt-in, belt-ends}
 use Rattle.route.specs.Inner.{costsIn}
-use Rattle.route.proofs.Looking.{by-none, by-some}
-use Rattle.route.proofs.Kept.{cost-at}
+use Rattle.route.proofs.RelaxScan.{by-none, by-some}
+use Rattle.route.proofs.RelaxWays.{cost-at}
 use Rattle.route.proofs.relax.way_over.Statement.{statement}
 use Rattle.route.proofs.relax.way_over.Tie as tie
 

@@ -15,9 +15,9 @@ use Rattle.route.specs.Routes.{costLimit}
 use Rattle.route.specs.Subproblems.{Subproblem}
 use Rattle.route.specs.Values.{subproblemIn}
 use Rattle.route.specs.Inner.{wayIn, wayCost, costsIn, firstsIn, Spared}
-use Rattle.route.proofs.Bounded.{at-most-none, at-most-some}
-use Rattle.route.proofs.Kept.{cost-at, costs-set, firsts-set, ways-start, spared-set}
-use Rattle.route.proofs.Passed.{Passed, passed-start, passed-low, passed-moved, passed-kept, passed-above}
+use Rattle.route.proofs.RelaxBound.{at-most-none, at-most-some}
+use Rattle.route.proofs.RelaxWays.{cost-at, costs-set, firsts-set, ways-start, spared-set}
+use Rattle.route.proofs.RelaxPass.{Passed, passed-start, passed-low, passed-moved, passed-kept, passed-above}
 use Rattle.route.proofs.relax.ways_to.Statement.{statement}
 use Rattle.route.proofs.relax.ways_to.Tie as tie
 

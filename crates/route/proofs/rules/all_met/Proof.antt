@@ -12,9 +12,9 @@ use Rattle.plan.proofs.Reading.{records-more, rule-low, literal-low}
 use Rattle.route.specs.Permission.{holds, met}
 use Rattle.route.specs.Values.{namedPlaces, hasBelt, codeIn}
 use Rattle.route.specs.Inner.{isTrue}
-use Rattle.route.proofs.Codes.{assigned, assigned-fits, codable-low, literal-codable, literal-true}
-use Rattle.route.proofs.Ahead as ahead
-use Rattle.route.proofs.Entries.{first-entry, rule-parts, literal-parts}
+use Rattle.route.proofs.RulesCodes.{assigned, assigned-fits, codable-low, literal-codable, literal-true}
+use Rattle.route.proofs.RulesScan as ahead
+use Rattle.route.proofs.RulesEntries.{first-entry, rule-parts, literal-parts}
 use Rattle.route.proofs.rules.all_met.Statement.{statement}
 use Rattle.route.proofs.rules.all_met.Tie as tie
 

@@ -5,11 +5,11 @@ use mathlib.Core.List.{List}
 use borrow.Author.Needs.{needs}
 use Rattle.plan.specs.Bounds.{maxRecords}
 use Rattle.plan.specs.Plan.{planOf}
-use Rattle.plan.proofs.Arcs.{records-few}
+use Rattle.plan.proofs.AdjacencyArcs.{records-few}
 use Rattle.route.specs.Permission.{allMet}
 use Rattle.route.specs.Values.{idsOf, OfNamed, gatheredIn, maskOf, hasBelt}
-use Rattle.route.proofs.Holding.{known-low, route-placeable, mask-named, met-mask}
-use Rattle.route.proofs.Entries.{clauses-lent}
+use Rattle.route.proofs.RulesNamed.{known-low, route-placeable, mask-named, met-mask}
+use Rattle.route.proofs.RulesEntries.{clauses-lent}
 use Rattle.route.proofs.rules.met_by.Statement.{statement}
 use Rattle.route.proofs.rules.met_by.Tie as tie
 

@@ -6,7 +6,7 @@ use borrow.Author.Tests.{not-true, not-false}
 use Rattle.plan.specs.Lists.{all, upto}
 use Rattle.plan.proofs.Lists.{all-stop, all-next, all-done}
 use Rattle.route.specs.Sheets.{stepFits, inForm}
-use Rattle.route.proofs.Forms.{form-short, form-long, form-odd, form-head, form-steps}
+use Rattle.route.proofs.SheetForm.{form-short, form-long, form-odd, form-head, form-steps}
 use Rattle.route.proofs.sheet.in_form.Statement.{statement}
 use Rattle.route.proofs.sheet.in_form.Tie as tie
 

@@ -1,5 +1,5 @@
 -- `route::sheet::put_head` meets its contract. Assumes nothing.
-use Rattle.route.proofs.Stores.{headed}
+use Rattle.route.proofs.SheetWriting.{headed}
 use borrow.Author.Needs.{needs}
 use Rattle.route.proofs.sheet.put_head.Statement.{statement}
 use Rattle.route.proofs.sheet.put_head.Tie as tie

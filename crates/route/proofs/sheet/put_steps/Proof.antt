@@ -7,8 +7,8 @@ use Rattle.plan.specs.Bounds.{maxSteps}
 use Rattle.plan.specs.Plan.{beltId}
 use Rattle.route.specs.Sheets.{stepsFrom}
 use Rattle.plan.specs.Records.{placed}
-use Rattle.route.proofs.Held.{places, firstIds}
-use Rattle.route.proofs.Stores.{no-steps, length-stepped, stepped}
+use Rattle.route.proofs.RouteBelts.{places, firstIds}
+use Rattle.route.proofs.SheetWriting.{no-steps, length-stepped, stepped}
 use Rattle.route.proofs.sheet.put_steps.Statement.{statement}
 use Rattle.route.proofs.sheet.put_steps.Tie as tie
 

@@ -1,6 +1,6 @@
 -- `route::sheet::read` meets its contract: a part of the sheet from each callee. Assumes nothing.
 use native.Mathlib.Omega.{arith}
-use Rattle.route.proofs.Readings.{form-is}
+use Rattle.route.proofs.SheetReading.{form-is}
 use borrow.Author.Needs.{needs}
 use Rattle.route.proofs.sheet.read.Statement.{statement}
 use Rattle.route.proofs.sheet.read.Tie as tie

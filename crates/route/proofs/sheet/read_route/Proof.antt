@@ -8,9 +8,9 @@ use lib.Seq.{sets}
 use Rattle.plan.specs.Bounds.{maxSteps, recordBytes}
 use Rattle.route.specs.Sheets.{steps, beltsOn}
 use Rattle.route.specs.Values.{packed}
-use Rattle.route.proofs.Readings.{form-is, length-belts, few-belts}
-use Rattle.route.proofs.ByName.{packed-sets}
-use Rattle.route.proofs.Forms.{beltsFrom, belts-next, belts-done}
+use Rattle.route.proofs.SheetReading.{form-is, length-belts, few-belts}
+use Rattle.route.proofs.RouteIndices.{packed-sets}
+use Rattle.route.proofs.SheetForm.{beltsFrom, belts-next, belts-done}
 use Rattle.route.proofs.sheet.read_route.Statement.{statement}
 use Rattle.route.proofs.sheet.read_route.Tie as tie
 

@@ -5,8 +5,8 @@ use lib.ListN.{length}
 use borrow.Author.Needs.{needs}
 use Rattle.plan.specs.Bounds.{maxSteps}
 use Rattle.route.specs.Values.{idsOf}
-use Rattle.route.proofs.Held.{places, length-first}
-use Rattle.route.proofs.Stores.{written}
+use Rattle.route.proofs.RouteBelts.{places, length-first}
+use Rattle.route.proofs.SheetWriting.{written}
 use Rattle.route.proofs.sheet.write.Statement.{statement}
 use Rattle.route.proofs.sheet.write.Tie as tie
 

@@ -3,7 +3,7 @@ use mathlib.Core.Path.{refl, subst}
 use borrow.Author.Needs.{needs}
 use Rattle.search.specs.declared.state.Ending.the-variants.{GoesOn, Nothing, Spent}
 use Rattle.search.specs.Answers.{reply, replyOf, Told}
-use Rattle.search.proofs.Replies.{turn-ended, turn-found}
+use Rattle.search.proofs.AnswerReply.{turn-ended, turn-found}
 use Rattle.search.proofs.entry.find_over.Statement.{statement}
 use Rattle.search.proofs.entry.find_over.Tie as tie
 

@@ -5,8 +5,8 @@ use native.Mathlib.Omega.{arith}
 use borrow.Author.Needs.{needs}
 use Rattle.plan.specs.Bounds.{maxRecords}
 use Rattle.plan.specs.Records.{records}
-use Rattle.plan.proofs.Arcs.{arcs-lent, records-few}
-use Rattle.route.proofs.Entries.{clauses-lent}
+use Rattle.plan.proofs.AdjacencyArcs.{arcs-lent, records-few}
+use Rattle.route.proofs.RulesEntries.{clauses-lent}
 use Rattle.search.proofs.entry.find_route.Statement.{statement}
 use Rattle.search.proofs.entry.find_route.Tie as tie
 

@@ -8,13 +8,13 @@ use Rattle.plan.specs.Plan.{planOf}
 use Rattle.plan.specs.Refusals.{numberOf}
 use Rattle.plan.specs.Claims.{Unbroken}
 use Rattle.plan.specs.Reading.{Accepted}
-use Rattle.plan.proofs.Numbers.{nonzero}
+use Rattle.plan.proofs.LineNumbers.{nonzero}
 use Rattle.route.specs.Routes.{wrongEnds}
 use Rattle.route.specs.Refusals.{tripLines}
-use Rattle.route.proofs.Checked.{trip-plan, trip-8, ends-trip, ends-wrong, ends-fine}
+use Rattle.route.proofs.SheetLines.{trip-plan, trip-8, ends-trip, ends-wrong, ends-fine}
 use Rattle.search.specs.Answers.{Request, tripIn, asked, wrongQuery, replyOf, Told}
 use Rattle.search.specs.Values.{requestOf}
-use Rattle.search.proofs.Replies.{trip-refused, refused-9, refused-10, none-refused, outcome-by, refused-told}
+use Rattle.search.proofs.AnswerReply.{trip-refused, refused-9, refused-10, none-refused, outcome-by, refused-told}
 use Rattle.search.proofs.entry.search.Statement.{statement}
 use Rattle.search.proofs.entry.search.Tie as tie
 

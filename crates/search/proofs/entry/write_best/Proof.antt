@@ -6,9 +6,9 @@ use borrow.Author.Needs.{needs}
 use Rattle.plan.specs.Plan.{planOf}
 use Rattle.route.specs.Permission.{planTerms, lowest}
 use Rattle.route.specs.Values.{idsOf, OfNamed, gatheredIn, maskOf, hasBelt}
-use Rattle.route.proofs.Holding.{known-low, route-placeable, mask-named, lowest-mask}
+use Rattle.route.proofs.RulesNamed.{known-low, route-placeable, mask-named, lowest-mask}
 use Rattle.search.specs.Answers.{orZero}
-use Rattle.search.proofs.Replies.{written-best}
+use Rattle.search.proofs.AnswerReply.{written-best}
 use Rattle.search.proofs.entry.write_best.Statement.{statement}
 use Rattle.search.proofs.entry.write_best.Tie as tie
 

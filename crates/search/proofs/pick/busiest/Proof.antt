@@ -10,13 +10,13 @@ use lib.Bits.{bitOr}
 use Rattle.plan.specs.declared.named.Place.the-variants.{At}
 use Rattle.plan.specs.Bounds.{maxNamed}
 use Rattle.plan.specs.Lists.{keep, upto}
-use Rattle.plan.proofs.Counts.{keep-first, keep-rest, keep-done}
+use Rattle.plan.proofs.ListCounts.{keep-first, keep-rest, keep-done}
 use Rattle.route.specs.declared.relax.Fixings.{Fixings}
 use Rattle.route.specs.Values.{inMask}
-use Rattle.route.proofs.Bits.{or-set}
+use Rattle.route.proofs.MaskBits.{or-set}
 use Rattle.search.specs.Branching.{higher, highest}
 use Rattle.search.specs.Inner.{unfixedPlaces, countAt}
-use Rattle.search.proofs.Picks.{Tops, tops-taken, tops-kept, tops-found, tops-none}
+use Rattle.search.proofs.BranchPicks.{Tops, tops-taken, tops-kept, tops-found, tops-none}
 use Rattle.search.proofs.pick.busiest.Statement.{statement}
 use Rattle.search.proofs.pick.busiest.Tie as tie
 

@@ -8,9 +8,9 @@ use Rattle.plan.specs.declared.named.Place.the-variants.{At}
 use Rattle.plan.specs.Lists.{upto}
 use Rattle.plan.proofs.Lists.{keep-in, upto-in}
 use Rattle.route.specs.Values.{inMask}
-use Rattle.route.proofs.Bits.{ones-set}
+use Rattle.route.proofs.MaskBits.{ones-set}
 use Rattle.search.specs.Inner.{unfixedAt, unfixedPlaces, atPlace}
-use Rattle.search.proofs.Picks.{find-all}
+use Rattle.search.proofs.BranchPicks.{find-all}
 use Rattle.search.proofs.pick.lowest.Statement.{statement}
 use Rattle.search.proofs.pick.lowest.Tie as tie
 

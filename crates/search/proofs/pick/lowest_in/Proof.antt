@@ -9,7 +9,7 @@ use Rattle.plan.specs.declared.named.Place.the-variants.{At}
 use Rattle.route.specs.declared.relax.Fixings.{Fixings}
 use Rattle.route.specs.Values.{inMask}
 use Rattle.search.specs.Inner.{unfixedAt, atPlace}
-use Rattle.search.proofs.Picks.{lowest-here, lowest-over, free-bits}
+use Rattle.search.proofs.BranchPicks.{lowest-here, lowest-over, free-bits}
 use Rattle.search.proofs.pick.lowest_in.Statement.{statement}
 use Rattle.search.proofs.pick.lowest_in.Tie as tie
 

@@ -8,7 +8,7 @@ use Rattle.plan.specs.declared.named.Place.the-variants.{At}
 use Rattle.route.specs.Permission.{find}
 use Rattle.route.specs.Values.{inMask}
 use Rattle.search.specs.Inner.{unfixedPlaces}
-use Rattle.search.proofs.Picks.{else-at, else-none}
+use Rattle.search.proofs.BranchPicks.{else-at, else-none}
 use Rattle.search.proofs.pick.lowest_on.Statement.{statement}
 use Rattle.search.proofs.pick.lowest_on.Tie as tie
 

@@ -14,7 +14,7 @@ use Rattle.route.specs.Values.{inMask, hasBelt}
 use Rattle.search.specs.declared.pick.Counts.{Counts}
 use Rattle.search.specs.Branching.{highest}
 use Rattle.search.specs.Inner.{unfixedPlaces, atPlace, countAt}
-use Rattle.search.proofs.Picks.{picks-lowest, picks-busiest, picks-on, mask-at}
+use Rattle.search.proofs.BranchPicks.{picks-lowest, picks-busiest, picks-on, mask-at}
 use Rattle.search.proofs.pick.picked.Statement.{statement}
 use Rattle.search.proofs.pick.picked.Tie as tie
 

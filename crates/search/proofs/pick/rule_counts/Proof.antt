@@ -7,7 +7,7 @@ use lib.ListN.{length}
 use Rattle.plan.specs.Reading.{rulesFrom}
 use Rattle.plan.proofs.Reading.{named-few}
 use Rattle.search.specs.Inner.{withRule}
-use Rattle.search.proofs.Counting.{Tallied, tallied-start, tallied-few, tallied-next, tallied-end, tallied-shorter}
+use Rattle.search.proofs.BranchCounts.{Tallied, tallied-start, tallied-few, tallied-next, tallied-end, tallied-shorter}
 use Rattle.search.proofs.pick.rule_counts.Statement.{statement}
 use Rattle.search.proofs.pick.rule_counts.Tie as tie
 

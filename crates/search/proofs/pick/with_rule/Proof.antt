@@ -8,7 +8,7 @@ use borrow.Author.Needs.{needs}
 use lib.ListN.{getD, set}
 use Rattle.plan.specs.Bounds.{maxNamed}
 use Rattle.search.specs.Inner.{withRule}
-use Rattle.search.proofs.Counting.{with-none, with-same, with-next, with-now}
+use Rattle.search.proofs.BranchCounts.{with-none, with-same, with-next, with-now}
 use Rattle.search.proofs.pick.with_rule.Statement.{statement}
 use Rattle.search.proofs.pick.with_rule.Tie as tie
 

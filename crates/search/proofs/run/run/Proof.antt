@@ -8,8 +8,8 @@ use Rattle.search.specs.declared.state.Ending.{Ending}
 use Rattle.search.specs.declared.state.Ending.the-variants.{GoesOn, Found, Nothing, Spent}
 use Rattle.plan.specs.Bounds.{junctionPlaces, maxSteps}
 use Rattle.search.specs.Values.{boundIn}
-use Rattle.search.proofs.Bounds.{walked-in-size}
-use Rattle.search.proofs.Opening.{Running, running-first, Handed, left, handed, fewer}
+use Rattle.search.proofs.SearchBound.{walked-in-size}
+use Rattle.search.proofs.SearchStep.{Running, running-first, Handed, left, handed, fewer}
 use Rattle.search.proofs.run.run.Statement.{statement}
 use Rattle.search.proofs.run.run.Tie as tie
 

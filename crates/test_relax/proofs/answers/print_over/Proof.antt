@@ -5,10 +5,10 @@ use lib.ListN.{length, replicate}
 use borrow.Author.Needs.{needs}
 use Rattle.plan.specs.Plan.{planOf}
 use Rattle.plan.specs.Adjacency.{arcsIn}
-use Rattle.plan.proofs.Arcs.{arcs-lent, records-few}
+use Rattle.plan.proofs.AdjacencyArcs.{arcs-lent, records-few}
 use Rattle.route.specs.Subproblems.{relaxed}
 use Rattle.route.specs.Values.{subproblemIn, atMost}
-use Rattle.route.proofs.Bounded.{walked-size}
+use Rattle.route.proofs.RelaxBound.{walked-size}
 use Rattle.test_relax.proofs.answers.print_over.Statement.{statement}
 use Rattle.test_relax.proofs.answers.print_over.Tie as tie
 

@@ -3,10 +3,10 @@ use borrow.Author.Needs.{needs}
 use mathlib.Core.Path.{refl, sym, _∙_, ap, subst}
 use mathlib.Core.List.{List}
 use Prim.Native.Nat.{ℕ}
-use Rattle.plan.proofs.Arcs.{records-few}
+use Rattle.plan.proofs.AdjacencyArcs.{records-few}
 use Rattle.route.specs.Values.{idsOf, OfNamed, gatheredIn}
-use Rattle.route.proofs.Holding.{known-low, route-placeable, mask-named}
-use Rattle.route.proofs.Entries.{clauses-lent}
+use Rattle.route.proofs.RulesNamed.{known-low, route-placeable, mask-named}
+use Rattle.route.proofs.RulesEntries.{clauses-lent}
 use Rattle.test_sheets.proofs.answers.lowest_of.Statement.{statement}
 use Rattle.test_sheets.proofs.answers.lowest_of.Tie as tie
 

@@ -21,8 +21,8 @@ use Rattle.route.specs.Routes.{cost, costLimit, before}
 use Rattle.route.specs.Permission.{passes}
 use Rattle.route.specs.Subproblems.{relaxed}
 use Rattle.route.specs.Values.{idsOf, Known, routeIn, OfNamed, subproblemIn, hasBelt, atMost, walkedOf, firstBelts}
-use Rattle.route.proofs.Bounded.{walked-size}
-use Rattle.route.proofs.Holding.{known-low, mask-named}
+use Rattle.route.proofs.RelaxBound.{walked-size}
+use Rattle.route.proofs.RulesNamed.{known-low, mask-named}
 use Rattle.search.specs.declared.state.Search.{Search}
 use Rattle.search.specs.declared.state.Ending.{Ending}
 use Rattle.search.specs.declared.state.Ending.the-variants.{GoesOn}
@@ -32,9 +32,9 @@ use Rattle.search.specs.Search.{considered}
 use Rattle.search.specs.Answers.{problemIn}
 use Rattle.search.specs.Values.{noFixings, stateIn, endingIn, turnIn, boundIn, Valid, stepIn, newestOf, relaxedIn, walkedBy, walkedIn, maxWaiting}
 use Rattle.search.specs.Inner.{endedAs, heldAs, betterIn, judgedIn}
-use Rattle.search.proofs.Holding.{places, settledTo, Room, Taken, Settles, popped, count-few, popped-taken}
-use Rattle.search.proofs.Opening.{OnRoute, answered, judged-same, judged-settles, step-empty, step-spent, step-goes}
-use Rattle.search.proofs.Bounds.{bound-low, Held, Tells, tells, held-few, held-back, best-better}
+use Rattle.search.proofs.SearchState.{places, settledTo, Room, Taken, Settles, popped, count-few, popped-taken}
+use Rattle.search.proofs.SearchStep.{OnRoute, answered, judged-same, judged-settles, step-empty, step-spent, step-goes}
+use Rattle.search.proofs.SearchBound.{bound-low, Held, Tells, tells, held-few, held-back, best-better}
 use Rattle.search.proofs.state.Search.step.Statement.{statement}
 use Rattle.search.proofs.state.Search.step.Tie as tie
 
