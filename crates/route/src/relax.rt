@@ -38,7 +38,8 @@ ghost use Rattle.plan.specs.Adjacency.{wordHead, wordIndex, arcsIn, offsetsOf};
 ghost use Rattle.plan.specs.Reading.{Accepted, IsBelt};
 ghost use Rattle.route.specs.Routes.{wrongEnds, costLimit};
 ghost use Rattle.route.specs.Subproblems.{relaxed};
-ghost use Rattle.route.specs.Values.{inMask, LowPlace, OfNamed, subproblemIn, namedPlaces, numbersOf, maskOf, exitsOf, atMost, noSummary, summaryAs, walkedOf};
+ghost use Rattle.route.specs.Values.{inMask, LowPlace, OfNamed, subproblemIn, namedPlaces, numbersOf, maskOf, exitsOf};
+ghost use Rattle.route.specs.Values.{atMost, noSummary, summaryAs, walkedOf};
 ghost use Rattle.route.specs.Inner.{Lent, isRequired, wayOver, noWay, wayBy, wayIn, wayCost, Guides, costsIn, firstsIn, Spared, joinedIn};
 
 // A subproblem: masks over the named belts of the plan, bit k for the belt at place k among them.

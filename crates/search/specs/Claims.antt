@@ -242,8 +242,8 @@ abbrev pub SoundClaim : Type 0
 SoundClaim = (k : Asked) → Unbroken queryLines k → (n : ℕ) → Sound k (runs (problemIn (k .plan) (k .query)) (k .query .budget) n begun .state)
 
 abbrev pub ValidClaim : Type 0
-ValidClaim = (b : List ℕ) → Accepted b → (v w : Search) → length (v .waiting) ≡ maxWaiting → length (w .waiting) ≡ maxWaiting → Valid b v → Valid b w
-    → stateIn b v ≡ stateIn b w → v ≡ w
+ValidClaim = (b : List ℕ) → Accepted b → (v w : Search) → length (v .waiting) ≡ maxWaiting → length (w .waiting) ≡ maxWaiting
+    → Valid b v → Valid b w → stateIn b v ≡ stateIn b w → v ≡ w
 
 -- all of them
 pub record Claims : Type 0 where
