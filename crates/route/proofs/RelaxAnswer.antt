@@ -15,8 +15,8 @@ use Rattle.plan.specs.Plan.{Belt, planOf, indicesOf}
 use Rattle.plan.specs.Reading.{Accepted, IsBelt}
 use Rattle.plan.proofs.Lists.{map-in}
 use Rattle.plan.proofs.Reading.{belt-of}
-use Rattle.route.specs.Routes.{IsRoute, costLimit, beltsByIndex}
-use Rattle.route.specs.Values.{idsOf, packed, Known, routeIn, routeOf, firstBelts, walkedOf}
+use Rattle.route.specs.Routes.{IsRoute, beltsByIndex}
+use Rattle.route.specs.Values.{idsOf, packed, Known, routeIn, routeOf, firstBelts, unbounded, walkedOf}
 use Rattle.route.specs.Laws.{AnswerLaw}
 use Rattle.route.proofs.RouteIndices.{indices-belts, route-few, route-cheap, route-belts, ids-packed}
 use Rattle.route.proofs.RelaxBound.{at-most-some}
@@ -52,7 +52,7 @@ answer-law b ok bytes s t low high x r q =
     let cheap = route-cheap ok bytes s t r high i in
     record {
       cheap = cheap;
-      within = at-most-some (costLimit - 1) (some r) (omega arith);
+      within = at-most-some unbounded (some r) (omega arith);
       known = known ok s t r i low high;
       indices = ids-packed (indicesOf r) h;
       same = same ok s t r i low high;

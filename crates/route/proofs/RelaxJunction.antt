@@ -82,7 +82,7 @@ module _ {b : List ℕ} (ok : Accepted b) (bytes : Bytes b) (x : Subproblem) (t 
   -- ---- a way on costs less than costLimit, which stands for none
 
   pub way-low : (u : ℕ) (r : List Belt) → wayOn (planOf b) x t u ≡ some r → cost r < costLimit
-  way-low u r h = route-cheap ok bytes u t r inside (way-route ok x t u r h)
+  way-low u r h = omega (arith, route-cheap ok bytes u t r inside (way-route ok x t u r h))
 
   pub cost-low : (u : ℕ) → wayCost (wayOn (planOf b) x t u) ≤ costLimit
   cost-low u = go (wayOn (planOf b) x t u) refl

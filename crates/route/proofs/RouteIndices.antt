@@ -13,14 +13,14 @@
 --   route-length     it has at most t - s belts: each leads higher
 --   sum-cost         THE BOUND of a cost: 65,535 for each belt of the plan, whether they are a route or not
 --   route-few, route-cheap
---                    so between junctions it has at most maxSteps belts, and costs less than costLimit
+--                    so between junctions it has at most maxSteps belts, and costs less than `unbounded`
 --   ends-junctions   s and t are junctions where they are no wrong ends
 -- Routes as the code holds them:
 --   ids-packed       a packed route holds the belts that were packed
 --   packed-sets      belts stored from the front of an array of maxSteps are `packed`
 --   known-route      the belts that a known Route holds are the belts at their records
 --   known-indices    and their indices are those that it holds
---   known-cheap      they cost less than costLimit
+--   known-cheap      they cost less than `unbounded`
 --
 -- Assumes nothing.
 use mathlib.Core.Path.{_≡_, refl, sym, _∙_, ap}
@@ -43,9 +43,9 @@ use Rattle.plan.proofs.ListRising.{Rises, more}
 use Rattle.plan.proofs.NamedPlaces.{ids-sets}
 use Rattle.plan.proofs.Reading.{plan-sizes, belt-in, index-belt, belts-rise, belt-ends, belts-cost}
 use Rattle.route.specs.declared.path.Route.{Route}
-use Rattle.route.specs.Routes.{wrongEnds, IsRoute, connects, cost, costLimit, beltsByIndex}
+use Rattle.route.specs.Routes.{wrongEnds, IsRoute, connects, cost, beltsByIndex}
 use Rattle.route.specs.Permission.{passes}
-use Rattle.route.specs.Values.{idsOf, packed, Known, routeIn}
+use Rattle.route.specs.Values.{idsOf, packed, Known, routeIn, unbounded}
 
 -- ---- the belt of an index
 
@@ -109,7 +109,7 @@ module _ {b : List ℕ} (ok : Accepted b) where
   pub route-few : (s t : ℕ) (r : List Belt) → 1 ≤ s → t ≤ planOf b .junctions → IsRoute (planOf b) s t r → length r ≤ maxSteps
   route-few s t r low inside h = omega (arith, route-length s t r h, plan-sizes ok .1)
 
-  pub route-cheap : Bytes b → (s t : ℕ) (r : List Belt) → t ≤ planOf b .junctions → IsRoute (planOf b) s t r → cost r < costLimit
+  pub route-cheap : Bytes b → (s t : ℕ) (r : List Belt) → t ≤ planOf b .junctions → IsRoute (planOf b) s t r → cost r < unbounded
   route-cheap bytes s t r inside h = omega (arith, sum-cost bytes r (route-belts (planOf b) s t r h), route-length s t r h, plan-sizes ok .1)
 
 pub indexed-in : (p : Plan) (es : List ℕ) (e : Belt) → List·Memᴰ e (beltsByIndex p es) → List·Memᴰ e (p .belts)
@@ -151,7 +151,7 @@ known-route ok r k = indexed-map ok (idsOf r) (k .belts)
 pub known-indices : {b : List ℕ} → Accepted b → (r : Route) → Known b r → indicesOf (routeIn b r) ≡ idsOf r
 known-indices {b} ok r k = ap indicesOf (known-route ok r k) ∙ map-map (λ (e : Belt). e .index) (beltAt b) (idsOf r) ∙ map-id (idsOf r)
 
-pub known-cheap : {b : List ℕ} → Accepted b → Bytes b → (r : Route) → Known b r → cost (routeIn b r) < costLimit
+pub known-cheap : {b : List ℕ} → Accepted b → Bytes b → (r : Route) → Known b r → cost (routeIn b r) < unbounded
 known-cheap {b} ok bytes r k =
     let sum = sum-cost ok bytes (routeIn b r) (indexed-in (planOf b) (idsOf r)) in
     let size : length (routeIn b r) ≡ length (idsOf r) = sym (length-map (routeIn b r) (λ (e : Belt). e .index)) ∙ ap length (known-indices ok r k) in

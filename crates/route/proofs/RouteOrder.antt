@@ -31,8 +31,7 @@ use Rattle.plan.proofs.Lists.{test, both, either, neither}
 use Rattle.plan.proofs.Reading.{belt-index}
 use Rattle.route.specs.declared.path.Route.{Route}
 use Rattle.route.specs.Routes.{IsRoute, cost, first, lower, before}
-use Rattle.route.specs.Values.{idsOf, Known, routeIn}
-use Rattle.route.specs.Inner.{lowerIds}
+use Rattle.route.specs.Values.{idsOf, Known, routeIn, lowerIds}
 use Rattle.route.specs.Claims.{OrderClaim, UpwardClaim}
 use Rattle.route.proofs.RouteIndices.{route-length, known-indices}
 

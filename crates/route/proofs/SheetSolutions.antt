@@ -207,7 +207,7 @@ module _ {b : List ℕ} (good : Accepted b) (plan-bytes : Bytes b) (s t : ℕ) (
     written = refl;
     short = omega (arith, few, length-map way (λ (f : Belt). f .index));
     indices = small;
-    cost-fits = route-cheap good plan-bytes s t way t-high is-route;
+    cost-fits = omega (arith, route-cheap good plan-bytes s t way t-high is-route);
     setting-fits = tiny;
   }
 

@@ -4,7 +4,6 @@
 --                   literal l has a code: a named belt that can be looked up in the array of places, or a mode up to maxModes
 --   isTrue on c     the literal of code c holds, where the mask `on` has the variables that are on
 --   stores f l is   the array l with f i at place i, for each i of the list `is`
---   lowerIds es fs  `lower` of routes with the indices es and fs
 --   contentRefusal p trip v
 --                   the first broken one of lines 11 to 14 (sheetBy), or 0, by what a sheet in the form says
 -- The relaxed route, found from t backwards:
@@ -58,16 +57,10 @@ use Rattle.route.specs.declared.sheet.Sheet.{Sheet}
 use Rattle.route.specs.declared.path.Trip.{Trip}
 use Rattle.route.specs.declared.relax.Fixings.{Fixings}
 use Rattle.route.specs.declared.relax.Way.{Way}
-use Rattle.route.specs.Routes.{connects, cost, costLimit, first, beltsByIndex}
+use Rattle.route.specs.Routes.{connects, cost, costLimit, beltsByIndex}
 use Rattle.route.specs.Permission.{passes, termsOf, works}
 use Rattle.route.specs.Subproblems.{Subproblem, relaxed}
 use Rattle.route.specs.Values.{idsOf, subproblemIn, namedPlaces}
-
-abbrev pub lowerIds : List ℕ → List ℕ → Bool
-lowerIds [] [] = false
-lowerIds [] (f ∷ fs) = true
-lowerIds (e ∷ es) [] = false
-lowerIds (e ∷ es) (f ∷ fs) = first e f (lowerIds es fs)
 
 -- ---- clauses
 

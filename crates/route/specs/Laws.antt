@@ -3,8 +3,8 @@
 --
 --   BitLaw        bit k of a mask is for the k-th of the named belts
 --   MasksLaw      every subproblem of named belts has masks, with the same relaxed routes
---   Holdable b r  the route r can be tested, written and checked: it costs less than costLimit, so a bound of costLimit - 1 does not drop it; a
---                 Route holds it, of at most maxSteps belts, all of the plan; and the same Route is read out of an array that its belts were put into
+--   Holdable b r  the route r can be tested, written and checked: it costs less than `unbounded`, so that bound does not drop it; a Route
+--                 holds it, of at most maxSteps belts, all of the plan; and the same Route is read out of an array that its belts were put into
 --   AnswerLaw     every relaxed route is holdable
 --   ReadBackLaw   the code reads back whatever `sheet::write` may be given
 --
@@ -25,7 +25,7 @@ use Rattle.route.specs.declared.relax.Fixings.{Fixings}
 use Rattle.route.specs.Routes.{cost, costLimit}
 use Rattle.route.specs.Subproblems.{Subproblem, relaxed}
 use Rattle.route.specs.Sheets.{inForm}
-use Rattle.route.specs.Values.{idsOf, packed, Known, routeIn, sheetIn, bytesOf, fixedIn, OfNamed, subproblemIn, routeOf, firstBelts, atMost, walkedOf}
+use Rattle.route.specs.Values.{idsOf, packed, Known, routeIn, sheetIn, bytesOf, fixedIn, OfNamed, subproblemIn, routeOf, firstBelts, atMost, unbounded, walkedOf}
 
 abbrev pub BitLaw : Type 0
 BitLaw = (b : List ℕ) (m k : ℕ) → k < length (named (planOf b))
@@ -38,8 +38,8 @@ MasksLaw = (b : List ℕ) → Accepted b → (x : Subproblem)
     × ((s t : ℕ) → relaxed (planOf b) s t (subproblemIn b f) ≡ relaxed (planOf b) s t x)
 
 pub record Holdable (b : List ℕ) (r : List Belt) : Type 0 where
-  pub cheap : cost r < costLimit
-  pub within : atMost (costLimit - 1) (some r) ≡ some r
+  pub cheap : cost r < unbounded
+  pub within : atMost unbounded (some r) ≡ some r
   pub known : Known b (routeOf r)
   pub indices : idsOf (routeOf r) ≡ indicesOf r
   pub same : routeIn b (routeOf r) ≡ r

@@ -6,6 +6,7 @@
 --   firstBelts n ns  the Route of the first n belts of an array of indices
 --   Known b r        a Route of at most maxSteps belts, all of them belts of the plan b
 --   routeIn b r      the belts of the plan b that a Route holds
+--   lowerIds es fs   `lower` of routes with the indices es and fs: the order of routes that cost as much
 --   sheetIn h        the Sheet that the bytes h read as
 --   bytesOf v        the bytes of a Sheet
 --   settingIn v      the lowest setting, if there is one, that an answer stands for
@@ -25,6 +26,7 @@
 --   hasBelt b m e    the mask m has belt e of the plan b
 --   exitsOf b        for each number from 0 to maxJunctions the named belts of the plan b that leave the junction of this number, as a mask
 --   atMost c o       the route o, if there is one and it costs at most c
+--   unbounded        a bound that drops no route, and that none costs as much as
 --   summaryAs b o    the answer that stands for the cost of a route of the plan b, how many belts it has and the named ones, or for none (noSummary)
 --   walkedOf o array
 --                    the array with the indices of the belts of the route o, if there is one, from the first place on
@@ -64,7 +66,7 @@ use Rattle.route.specs.declared.modes.Lowest.the-variants.{Works, Nothin
 use Rattle.route.specs.declared.path.Trip.{Trip}
 use Rattle.route.specs.declared.relax.Fixings.{Fixings}
 use Rattle.route.specs.declared.relax.Summary.{Summary}
-use Rattle.route.specs.Routes.{cost, costLimit, beltsByIndex}
+use Rattle.route.specs.Routes.{cost, costLimit, first, beltsByIndex}
 use Rattle.route.specs.Subproblems.{Subproblem}
 use Rattle.route.specs.Sheets.{sheetOf, beltsOn, costOn, settingOn}
 use Rattle.route.specs.Refusals.{Case}
@@ -87,6 +89,12 @@ pub record Known (b : List ℕ) (r : Route) : Type 0 where
 
 abbrev pub routeIn : List ℕ → Route → List Belt
 routeIn b r = beltsByIndex (planOf b) (idsOf r)
+
+abbrev pub lowerIds : List ℕ → List ℕ → Bool
+lowerIds [] [] = false
+lowerIds [] (f ∷ fs) = true
+lowerIds (e ∷ es) [] = false
+lowerIds (e ∷ es) (f ∷ fs) = first e f (lowerIds es fs)
 
 abbrev pub sheetIn : List ℕ → Sheet
 sheetIn h = record { route = packed (beltsOn h); cost = costOn h; setting = settingOn h }
@@ -147,6 +155,9 @@ exitsOf b = map (λ (u : ℕ). maskOf b (indicesOf (leaving (planOf b) u))) (upt
 abbrev pub atMost : ℕ → Option (List Belt) → Option (List Belt)
 atMost c none = none
 atMost c (some r) = elim (leb (cost r) c) [ true ↦ some r | false ↦ none ]
+
+abbrev pub unbounded : ℕ
+unbounded = costLimit - 1
 
 abbrev pub noSummary : Summary
 noSummary = record { cost = costLimit; count = 0; named = 0 }

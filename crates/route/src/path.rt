@@ -1,5 +1,5 @@
 // Routes: what is asked of one, and its belts: whether they are the plan's, whether they connect, what they cost,
-// and which of two comes before the other.
+// and which of two that cost as much comes before the other.
 use plan::bounds::FIELD_LIMIT;
 use plan::bounds::MAX_STEPS;
 use plan::read;
@@ -12,9 +12,8 @@ ghost use Rattle.plan.specs.Bounds.{maxSteps};
 ghost use Rattle.plan.specs.Lists.{all, mem, within};
 ghost use Rattle.plan.specs.Plan.{planOf, indicesOf};
 ghost use Rattle.plan.specs.Reading.{Accepted};
-ghost use Rattle.route.specs.Routes.{wrongEnds, connects, cost, costLimit, before};
-ghost use Rattle.route.specs.Values.{idsOf, Known, routeIn, firstBelts};
-ghost use Rattle.route.specs.Inner.{lowerIds};
+ghost use Rattle.route.specs.Routes.{wrongEnds, connects, cost, costLimit};
+ghost use Rattle.route.specs.Values.{idsOf, Known, routeIn, firstBelts, lowerIds};
 
 // Every route costs less. A sheet holds a cost in three fields.
 pub const COST_LIMIT: u64 = (FIELD_LIMIT * FIELD_LIMIT * FIELD_LIMIT) as u64;
@@ -127,8 +126,8 @@ pub fn cost(p: &[u8], route: Route) -> u64
     sum
 }
 
-// The lexicographic order by belt index: whether at the first difference route a has the lower belt. A proper prefix is lower.
-fn lower(a: Route, b: Route) -> bool
+// The order of routes that cost as much, by belt index: whether at the first difference route a has the lower belt. A proper prefix is lower.
+pub fn lower(a: Route, b: Route) -> bool
     requires { ⌜ (a .count ≤ maxSteps)
         × (b .count ≤ maxSteps) ⌝ }
     ensures { λ v. ⌜ v ≡ lowerIds (idsOf a) (idsOf b) ⌝ }
@@ -146,19 +145,4 @@ fn lower(a: Route, b: Route) -> bool
         k += 1;
     }
     k < b.count
-}
-
-// Whether route a comes before route b: it costs less, or as much and at the first difference its belt index is lower.
-pub fn before(p: &[u8], a: Route, b: Route) -> bool
-    requires { ⌜ Accepted (now p)
-        × Known (now p) a
-        × Known (now p) b ⌝ }
-    ensures { λ v. ⌜ v ≡ before (routeIn (now (p .entry)) a) (routeIn (now (p .entry)) b) ⌝ }
-{
-    let cost_a = cost(p, a);
-    let cost_b = cost(p, b);
-    if cost_a != cost_b {
-        return cost_a < cost_b;
-    }
-    lower(a, b)
 }

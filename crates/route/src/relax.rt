@@ -58,7 +58,7 @@ pub struct Summary {
 // The cost of a way that is not there: no route costs as much.
 const NO_WAY: u64 = COST_LIMIT;
 
-// A bound that every route keeps to.
+// A bound that every route keeps to, and that none costs as much as.
 pub const UNBOUNDED: u64 = COST_LIMIT - 1;
 
 // The cheapest way on from a junction: its cost, its first belt, and whether a required belt leaves the junction.

@@ -41,7 +41,7 @@ use Rattle.search.specs.declared.state.Ending.the-variants.{Found}
 use Rattle.search.specs.declared.query.Query.{Query}
 use Rattle.search.specs.Search.{foundRoute, Turn, settingOf, run}
 use Rattle.search.specs.Answers.{Asked, Request, tripIn, asked, wrongQuery, broken9, broken10, line9, line10, queryLines, searchRefusal, route, orZero, endingOf, endedBy, ended, problemIn, unlessRefused, outcome, reply, Told}
-use Rattle.search.specs.Values.{bestIn, stateIn, endingIn, turnIn, requestOf}
+use Rattle.search.specs.Values.{isHeld, bestIn, stateIn, endingIn, turnIn, requestOf}
 use Rattle.search.specs.Inner.{bestOf}
 use Rattle.search.proofs.RunSteps.{run-found}
 
@@ -68,10 +68,10 @@ module _ (b : List ℕ) (q : Query) (v : Stepped) (same : turnIn b v ≡ run (pr
   abbrev terms : Terms
   terms = termsOf (planOf b) (q .trip)
 
-  found-held : v .ending ≡ Found → v .search .found ≡ true
+  found-held : v .ending ≡ Found → isHeld (v .search .bound) ≡ true
   found-held e =
       let (r, h) = run-found (problemIn b q) (q .budget) (sym (ap (λ (x : Turn). x .ending) same) ∙ ap endingIn e) in
-      held b (v .search .found) (v .search .best) r (ap (λ (x : Turn). x .state .best) same ∙ h)
+      held b (isHeld (v .search .bound)) (v .search .best) r (ap (λ (x : Turn). x .state .best) same ∙ h)
 
   pub turn-ended : (out : List ℕ) (x : code.Ending) → v .ending ≡ x
       → endedBy terms (stateIn b (v .search)) (endingIn x) ≡ unlessRefused 0 (requestOf b q out)

@@ -2,10 +2,11 @@
 --
 --   places              the length of a Search's array, in the form in which owning a Search gives that fact
 --   waiting-length      the first n masks of an array are n subproblems
---   settledTo f o r v j the Search v after the decision j on the subproblem f is carried out, with the relaxed route r and the order o
+--   settledTo f o r c v j
+--                       the Search v after the decision j on the subproblem f is carried out, with the relaxed route r, its cost c and the order o
 --   Room v j            the array has room for what j adds
 --   Taken b v f         a Search from which the subproblem of the masks f was taken: there is room for its children
---   Settles .. r st j   after j is carried out the Search is valid, and stands for the state st
+--   Settles .. r c st j after j is carried out the Search is valid, and stands for the state st
 --   compared-settles    this holds for steps 3 to 6, where there is a relaxed route
 --   popped v            the Search v without its newest subproblem, opened and counted
 --   newest-waits, count-few, popped-taken
@@ -26,7 +27,7 @@ use lib.Pow.{pow-pos}
 use lib.ListN.{length, getD, set, length-set, length-map, replicate}
 use lib.Seq.{getD-set-same, getD-set-other}
 use lib.Dec.{eqb, ltb, eqb·suc-zero}
-use borrow.Author.Tests.{eqb-true, eqb-false}
+use borrow.Author.Tests.{eqb-true, eqb-false, ne-eqb}
 use Rattle.plan.specs.declared.named.Place.{Place}
 use Rattle.plan.specs.declared.named.Place.the-variants.{At}
 use Rattle.plan.specs.Lists.{count, mem}
@@ -40,7 +41,8 @@ use Rattle.route.specs.declared.path.Route.{Route}
 use Rattle.route.specs.declared.relax.Fixings.{Fixings}
 use Rattle.route.specs.Permission.{passes, termsOf}
 use Rattle.route.specs.Subproblems.{Subproblem}
-use Rattle.route.specs.Values.{idsOf, packed, Known, routeIn, inMask, withPlace, fixedIn, OfNamed, subproblemIn}
+use Rattle.route.specs.Routes.{cost}
+use Rattle.route.specs.Values.{idsOf, packed, Known, routeIn, inMask, withPlace, fixedIn, OfNamed, subproblemIn, unbounded}
 use Rattle.route.proofs.MaskFixings.{fixed-mem, with-belt, with-low, nothing-has}
 use Rattle.search.specs.declared.query.Query.{Query}
 use Rattle.search.specs.declared.state.Search.{Search}
@@ -49,8 +51,8 @@ use Rattle.search.specs.declared.state.Judged.the-variants.{Drop, Best, 
 use Rattle.search.specs.Branching.{isFixed, unfixed, fixedCount, adding, requiring, forbidding, children, pickOf}
 use Rattle.search.specs.Search.{State, free, branched, settingOf, tested, compared, begun}
 use Rattle.search.specs.Answers.{problemIn}
-use Rattle.search.specs.Values.{pickedPlace, noFixings, firstSearch, waitingIn, stateIn, Deep, Valid, newestOf, maxWaiting}
-use Rattle.search.specs.Inner.{childAt, branchAt, testedAs, judgedIn}
+use Rattle.search.specs.Values.{pickedPlace, noFixings, firstSearch, waitingIn, isHeld, bestIn, boundOf, stateIn, Deep, Valid, newestOf, maxWaiting}
+use Rattle.search.specs.Inner.{childAt, branchAt, testedAs, judgedIn, judgedBy}
 use Rattle.search.proofs.BranchChildren.{fixed-unfixed, picks-unfixed}
 use Rattle.search.proofs.RunDepth.{deep-tested, deep-begun, deep-few}
 
@@ -140,17 +142,17 @@ withBoth older newer v = record {
   count = v .count + 2;
   opened = v .opened;
   best = v .best;
-  found = v .found;
+  bound = v .bound;
 }
 
--- a new best is held
-abbrev held : Search → Route → Search
-held v r = record { waiting = v .waiting; count = v .count; opened = v .opened; best = r; found = true }
+-- a new best is held, that costs c
+abbrev held : Search → Route → ℕ → Search
+held v r c = record { waiting = v .waiting; count = v .count; opened = v .opened; best = r; bound = c }
 
-abbrev pub settledTo : Fixings → ℕ → Route → Search → Judged → Search
-settledTo f o r v Drop = v
-settledTo f o r v Best = held v r
-settledTo f o r v (Branch k) = withBoth (childAt f (At k) (eqb o 0)) (childAt f (At k) (not (eqb o 0))) v
+abbrev pub settledTo : Fixings → ℕ → Route → ℕ → Search → Judged → Search
+settledTo f o r c v Drop = v
+settledTo f o r c v Best = held v r c
+settledTo f o r c v (Branch k) = withBoth (childAt f (At k) (eqb o 0)) (childAt f (At k) (not (eqb o 0))) v
 
 abbrev pub Room : Search → Judged → Type 0
 Room v Drop = Unit {0}
@@ -203,6 +205,7 @@ module _ (b : List ℕ) (v : Search) (size : length (v .waiting) ≡ maxWaiting)
         known = valid .known;
         rest-zero = valid .rest-zero;
         unheld = valid .unheld;
+        bound-is = valid .bound-is;
       }
 
   grown-valid : (requires forbids : Fixings) → Masked b requires → Masked b forbids → Valid b v
@@ -212,31 +215,37 @@ module _ (b : List ℕ) (v : Search) (size : length (v .waiting) ≡ maxWaiting)
 
 -- ---- steps 3 to 6
 
-branch-grown : (f : Fixings) (k o : ℕ) (r : Route) (v : Search) → settledTo f o r v (Branch k) ≡ grown (childAt f (At k) true) (childAt f (At k) false) o v
-branch-grown f k zero r v = refl
-branch-grown f k (suc o) r v = ap (λ (t : Bool). withBoth (childAt f (At k) t) (childAt f (At k) (not t)) v) (eqb·suc-zero o)
+branch-grown : (f : Fixings) (k o : ℕ) (r : Route) (c : ℕ) (v : Search) → settledTo f o r c v (Branch k) ≡ grown (childAt f (At k) true) (childAt f (At k) false) o v
+branch-grown f k zero r c v = refl
+branch-grown f k (suc o) r c v = ap (λ (t : Bool). withBoth (childAt f (At k) t) (childAt f (At k) (not t)) v) (eqb·suc-zero o)
 
 some-long : {A : Type 0} {a : A} (xs : List A) → List·Memᴰ a xs → 1 ≤ length xs
 some-long [] m = absurd (List·Memᴰ·not-nil m)
 some-long (x ∷ xs) m = omega arith
 
-held-valid : {b : List ℕ} {v : Search} {r : Route} → Valid b v → Known b r → r ≡ packed (idsOf r) → Valid b (held v r)
-held-valid valid known rest-zero = record {
+-- what costs less than `unbounded` is held
+is-held : (c : ℕ) → c < unbounded → isHeld c ≡ true
+is-held c low = ap not (ne-eqb c unbounded (λ e. omega (arith, low, e)))
+
+held-valid : {b : List ℕ} {v : Search} {r : Route} {c : ℕ} → Valid b v → Known b r → r ≡ packed (idsOf r) → c ≡ cost (routeIn b r) → c < unbounded
+    → Valid b (held v r c)
+held-valid {b} {v} {r} {c} valid known rest-zero price low = record {
   required = valid .required;
   forbidden = valid .forbidden;
   deep = valid .deep;
   spare = valid .spare;
   known = known;
   rest-zero = rest-zero;
-  unheld = λ h. absurd (true≢false h);
+  unheld = λ h. absurd (true≢false (sym (is-held c low) ∙ h));
+  bound-is = price ∙ sym (ap (λ (t : Bool). boundOf (bestIn b t r)) (is-held c low));
 }
 
-pub record Settles (b : List ℕ) (v : Search) (f : Fixings) (q : Query) (r : Route) (st : State) (j : Judged) : Type 0 where
+pub record Settles (b : List ℕ) (v : Search) (f : Fixings) (q : Query) (r : Route) (c : ℕ) (st : State) (j : Judged) : Type 0 where
   pub room : Room v j
-  pub state : stateIn b (settledTo f (q .order) r v j) ≡ st
-  pub valid : Valid b (settledTo f (q .order) r v j)
+  pub state : stateIn b (settledTo f (q .order) r c v j) ≡ st
+  pub valid : Valid b (settledTo f (q .order) r c v j)
 
-module _ {b : List ℕ} (ok : Accepted b) (v : Search) (size : length (v .waiting) ≡ maxWaiting) (f : Fixings) (taken : Taken b v f) (q : Query) (r : Route) where
+module _ {b : List ℕ} (ok : Accepted b) (v : Search) (size : length (v .waiting) ≡ maxWaiting) (f : Fixings) (taken : Taken b v f) (q : Query) (r : Route) (c : ℕ) where
   abbrev subproblem : Subproblem
   subproblem = subproblemIn b f
 
@@ -250,7 +259,7 @@ module _ {b : List ℕ} (ok : Accepted b) (v : Search) (size : length (v .waitin
 
   branch-settles : (o : Option ℕ) → ((e : ℕ) → o ≡ some e → List·Memᴰ e (unfixed (planOf b) subproblem))
       → Deep (planOf b) (branched (problemIn b q) subproblem (stateIn b v) o .waiting)
-      → Settles b v f q r (branched (problemIn b q) subproblem (stateIn b v) o) (at o)
+      → Settles b v f q r c (branched (problemIn b q) subproblem (stateIn b v) o) (at o)
   branch-settles none h deep = record { room = tt; state = refl; valid = taken .valid }
   branch-settles (some e) h deep =
       let ns = named (planOf b) in
@@ -259,9 +268,9 @@ module _ {b : List ℕ} (ok : Accepted b) (v : Search) (size : length (v .waitin
       let few : v .count ≤ maxWaiting - 2 = few-wait e u in
       let requires = childAt f (placeOf ns e) true in
       let forbids = childAt f (placeOf ns e) false in
-      let whole : settledTo f (q .order) r v (at (some e)) ≡ grown requires forbids (q .order) v =
-      subst (λ (k : Place). settledTo f (q .order) r v (branchAt k) ≡ grown (childAt f k true) (childAt f k false) (q .order) v) (sym (place-in e ns i))
-      (branch-grown f (count (λ (n : ℕ). ltb n e) ns) (q .order) r v) in
+      let whole : settledTo f (q .order) r c v (at (some e)) ≡ grown requires forbids (q .order) v =
+      subst (λ (k : Place). settledTo f (q .order) r c v (branchAt k) ≡ grown (childAt f k true) (childAt f k false) (q .order) v) (sym (place-in e ns i))
+      (branch-grown f (count (λ (n : ℕ). ltb n e) ns) (q .order) r c v) in
       let state : stateIn b (grown requires forbids (q .order) v) ≡ branched (problemIn b q) subproblem (stateIn b v) (some e) =
       grown-state b v size few requires forbids subproblem e (requiring-is b e i f) (forbidding-is b e i f) (q .order) in record {
         room = subst (λ (k : Place). Room v (branchAt k)) (sym (place-in e ns i)) (few, omega (arith, at-place e (named-rises b) i .1, named-few ok));
@@ -276,13 +285,17 @@ module _ {b : List ℕ} (ok : Accepted b) (v : Search) (size : length (v .waitin
             (subst (λ (st : State). Deep (planOf b) (st .waiting)) (sym state) deep));
       }
 
-  module _ (known : Known b r) (rest-zero : r ≡ packed (idsOf r)) where
+  module _ (known : Known b r) (rest-zero : r ≡ packed (idsOf r)) (price : c ≡ cost (routeIn b r)) (low : c < unbounded) where
     abbrev picked : Option ℕ
     picked = pickOf (q .pick) (planOf b) subproblem (passes (routeIn b r))
 
     tested-settles : (o : Option ℕ)
-        → Settles b v f q r (tested (problemIn b q) subproblem (stateIn b v) (routeIn b r) o) (testedAs (pickedPlace (named (planOf b)) picked) o)
-    tested-settles (some σ) = record { room = tt; state = refl; valid = held-valid (taken .valid) known rest-zero }
+        → Settles b v f q r c (tested (problemIn b q) subproblem (stateIn b v) (routeIn b r) o) (testedAs (pickedPlace (named (planOf b)) picked) o)
+    tested-settles (some σ) = record {
+      room = tt;
+      state = λ i. record { waiting = stateIn b v .waiting; opened = v .opened; best = bestIn b (is-held c low i) r };
+      valid = held-valid (taken .valid) known rest-zero price low;
+    }
     tested-settles none =
         let p = planOf b in
         let few : length (stateIn b v .waiting) ≤ fixedCount p subproblem = omega (arith, waiting-length b (v .waiting) (v .count), taken .room) in
@@ -290,7 +303,7 @@ module _ {b : List ℕ} (ok : Accepted b) (v : Search) (size : length (v .waitin
         (deep-tested (problemIn b q) (λ x l. picks-unfixed (q .pick) p x (passes l)) subproblem (stateIn b v) (taken .valid .deep) few (routeIn b r) none)
 
     pub compared-settles : (t : Bool)
-        → Settles b v f q r (compared (problemIn b q) subproblem (stateIn b v) (routeIn b r) t) (judgedIn b q f (passes (routeIn b r)) t)
+        → Settles b v f q r c (compared (problemIn b q) subproblem (stateIn b v) (routeIn b r) t) (judgedBy t (judgedIn b q f (passes (routeIn b r))))
     compared-settles true = tested-settles (settingOf (termsOf (planOf b) (q .trip)) (routeIn b r))
     compared-settles false = record { room = tt; state = refl; valid = taken .valid }
 
@@ -302,7 +315,7 @@ popped v = record {
   count = v .count - 1;
   opened = v .opened + 1;
   best = v .best;
-  found = v .found;
+  bound = v .bound;
 }
 
 last-waits : (b : List ℕ) (xs : List Fixings) (n : ℕ) → (n ≡ 0 → ⊥)
@@ -341,6 +354,7 @@ popped-taken {b} ok v size valid waits =
         known = valid .known;
         rest-zero = valid .rest-zero;
         unheld = valid .unheld;
+        bound-is = valid .bound-is;
       };
       required = valid .required top;
       forbidden = valid .forbidden top;
@@ -374,4 +388,5 @@ first-valid b =
       known = record { few = omega arith; belts = λ e m. absurd (List·Memᴰ·not-nil m) };
       rest-zero = refl;
       unheld = λ h. refl;
+      bound-is = refl;
     }

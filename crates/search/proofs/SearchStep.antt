@@ -30,11 +30,11 @@ use Rattle.plan.specs.Plan.{Belt, planOf, indicesOf, named}
 use Rattle.plan.specs.Reading.{Accepted, Bytes}
 use Rattle.route.specs.declared.path.Route.{Route}
 use Rattle.route.specs.declared.relax.Fixings.{Fixings}
-use Rattle.route.specs.Routes.{wrongEnds}
+use Rattle.route.specs.Routes.{wrongEnds, cost}
 use Rattle.route.specs.Permission.{passes, termsOf, lowest}
 use Rattle.route.specs.Subproblems.{Subproblem, relaxed}
-use Rattle.route.specs.Values.{idsOf, packed, Known, routeIn, routeOf, subproblemIn, maskOf, hasBelt}
-use Rattle.route.proofs.RouteIndices.{ends-junctions}
+use Rattle.route.specs.Values.{idsOf, packed, Known, routeIn, routeOf, subproblemIn, maskOf, hasBelt, unbounded}
+use Rattle.route.proofs.RouteIndices.{known-cheap, ends-junctions}
 use Rattle.route.proofs.RelaxAnswer.{answer-law}
 use Rattle.route.proofs.RulesNamed.{mask-belt, lowest-mask}
 use Rattle.search.specs.declared.query.Query.{Query}
@@ -44,8 +44,8 @@ use Rattle.search.specs.declared.state.Ending as code
 use Rattle.search.specs.declared.state.Ending.the-variants.{GoesOn, Found, Nothing, Spent}
 use Rattle.search.specs.Search.{State, Ending, foundRoute, foundNone, budgetSpent, Turn, improves, considered, atEnd, budgeted, stepOf, step, runs, run}
 use Rattle.search.specs.Answers.{problemIn}
-use Rattle.search.specs.Values.{pickedPlace, firstSearch, waitingIn, bestIn, stateIn, endingIn, turnIn, Valid, newestOf, relaxedIn, maxWaiting}
-use Rattle.search.specs.Inner.{endedAs, testedAs, heldAs, betterIn, judgedIn}
+use Rattle.search.specs.Values.{pickedPlace, firstSearch, waitingIn, isHeld, bestIn, stateIn, endingIn, turnIn, Valid, newestOf, relaxedIn, maxWaiting}
+use Rattle.search.specs.Inner.{endedAs, testedAs, heldAs, priceOf, betterIn, judgedIn, judgedBy}
 use Rattle.search.proofs.RunSteps.{run-goes, run-ends}
 use Rattle.search.proofs.BranchPicks.{pick-cong}
 use Rattle.search.proofs.SearchState.{Taken, Settles, compared-settles, popped, newest-waits, first-state, first-valid}
@@ -69,11 +69,8 @@ answered {b} ok bytes s t ends x r e =
 
 module _ {b : List ℕ} (ok : Accepted b) (q : Query) (f : Fixings) where
   -- the mask of a Route tells the rule test and the picks what the Route does
-  pub judged-same : (m : ℕ) (r : Route) (t : Bool) → (t ≡ true → OnRoute b m r)
-      → judgedIn b q f (hasBelt b m) t ≡ judgedIn b q f (passes (routeIn b r)) t
-  judged-same m r false on = refl
-  judged-same m r true on =
-      let there = on refl in
+  pub judged-same : (m : ℕ) (r : Route) → OnRoute b m r → judgedIn b q f (hasBelt b m) ≡ judgedIn b q f (passes (routeIn b r))
+  judged-same m r there =
       let p = planOf b in
       let named-same : (e : ℕ) → List·Memᴰ e (named p) → hasBelt b m e ≡ passes (routeIn b r) e =
       λ e i. ap (λ (k : ℕ). hasBelt b k e) (there .mask) ∙ mask-belt ok r (there .known) e i in
@@ -84,13 +81,17 @@ module _ {b : List ℕ} (ok : Accepted b) (q : Query) (f : Fixings) where
 module _ {b : List ℕ} (ok : Accepted b) (bytes : Bytes b) (v : Search) (size : length (v .waiting) ≡ maxWaiting) (f : Fixings) (taken : Taken b v f) (q : Query)
     (ends : wrongEnds (planOf b) (q .trip .s) (q .trip .t) ≡ false) where
   pub judged-settles : (o : Option (List Belt)) → relaxedIn b (q .trip) f ≡ o
-      → Settles b v f q (heldAs o) (considered (problemIn b q) (subproblemIn b f) (stateIn b v) o)
-      (judgedIn b q f (passes (routeIn b (heldAs o))) (betterIn b o (v .found) (v .best)))
+      → Settles b v f q (heldAs o) (priceOf o) (considered (problemIn b q) (subproblemIn b f) (stateIn b v) o)
+      (judgedBy (betterIn b o (isHeld (v .bound)) (v .best)) (judgedIn b q f (passes (routeIn b (heldAs o)))))
   judged-settles none e = record { room = tt; state = refl; valid = taken .valid }
   judged-settles (some r) e =
       let (on, rest-zero, is) = answered ok bytes (q .trip .s) (q .trip .t) ends (subproblemIn b f) r e in
-      let by : List Belt → Type 0 = λ l. Settles b v f q (routeOf r) (considered (problemIn b q) (subproblemIn b f) (stateIn b v) (some l)) (judgedIn b q f (passes (routeIn b (routeOf r))) (improves l (bestIn b (v .found) (v .best)))) in
-      subst by is (compared-settles ok v size f taken q (routeOf r) (on .known) rest-zero (improves (routeIn b (routeOf r)) (bestIn b (v .found) (v .best))))
+      let best = bestIn b (isHeld (v .bound)) (v .best) in
+      let by : List Belt → Type 0 = λ l.
+      Settles b v f q (routeOf r) (cost r) (considered (problemIn b q) (subproblemIn b f) (stateIn b v) (some l))
+      (judgedBy (improves l best) (judgedIn b q f (passes (routeIn b (routeOf r))))) in
+      let low : cost r < unbounded = subst (λ (l : List Belt). cost l < unbounded) is (known-cheap ok bytes (routeOf r) (on .known)) in
+      subst by is (compared-settles ok v size f taken q (routeOf r) (cost r) (on .known) rest-zero (sym (ap cost is)) low (improves (routeIn b (routeOf r)) best))
 
 -- ---- a step
 
@@ -100,13 +101,12 @@ module _ (b : List ℕ) (q : Query) (budget : ℕ) (v : Search) where
   ends-with e = record { state = stateIn b v; ending = endingIn e }
 
   -- nothing waits: it goes by whether a best is held
-  pub step-empty : v .count ≡ 0 → ends-with (endedAs (v .count) (v .found)) ≡ step (problemIn b q) budget (stateIn b v)
+  pub step-empty : v .count ≡ 0 → ends-with (endedAs (isHeld (v .bound))) ≡ step (problemIn b q) budget (stateIn b v)
   step-empty n =
-      ap (λ (k : ℕ). ends-with (endedAs k (v .found))) n
-      ∙ ap (λ (o : Option Ending). record { state = stateIn b v; ending = o }) (held (v .found))
+      ap (λ (o : Option Ending). record { state = stateIn b v; ending = o }) (held (isHeld (v .bound)))
       ∙ sym (ap (stepOf (problemIn b q) budget (stateIn b v)) (ap (waitingIn b (v .waiting)) n))
     where
-      held : (t : Bool) → endingIn (endedAs 0 t) ≡ some (atEnd (bestIn b t (v .best)))
+      held : (t : Bool) → endingIn (endedAs t) ≡ some (atEnd (bestIn b t (v .best)))
       held true = refl
       held false = refl
 
@@ -122,12 +122,8 @@ module _ (b : List ℕ) (q : Query) (budget : ℕ) (v : Search) where
         sym (ap (stepOf (problemIn b q) budget (stateIn b v)) (newest-waits b v waits)
         ∙ ap (budgeted (problemIn b q) (stateIn b v) taken (stateIn b (popped v) .waiting)) e)
 
-    pub step-spent : v .opened ≡ budget → ends-with (endedAs (v .count) (v .found)) ≡ step (problemIn b q) budget (stateIn b v)
-    step-spent e = ap ends-with (spent (v .count) waits) ∙ by-budget true (eq-eqb (v .opened) budget e)
-      where
-        spent : (n : ℕ) → (n ≡ 0 → ⊥) → endedAs n (v .found) ≡ Spent
-        spent zero h = absurd (h refl)
-        spent (suc n) h = refl
+    pub step-spent : v .opened ≡ budget → ends-with Spent ≡ step (problemIn b q) budget (stateIn b v)
+    step-spent e = by-budget true (eq-eqb (v .opened) budget e)
 
     -- what the taken one leads to, where n are opened
     abbrev opened-to : ℕ → State
@@ -135,10 +131,10 @@ module _ (b : List ℕ) (q : Query) (budget : ℕ) (v : Search) where
         considered (problemIn b q) taken (record { waiting = stateIn b (popped v) .waiting; opened = n; best = stateIn b v .best })
         (relaxed (planOf b) (q .trip .s) (q .trip .t) taken)
 
-    pub step-goes : (v .opened ≡ budget → ⊥) → (w : Search) (k : ℕ)
+    pub step-goes : (v .opened ≡ budget → ⊥) → (w : Search)
         → stateIn b w ≡ considered (problemIn b q) taken (stateIn b (popped v)) (relaxed (planOf b) (q .trip .s) (q .trip .t) taken)
-        → turnIn b (record { search = w; ending = GoesOn; bound = k }) ≡ step (problemIn b q) budget (stateIn b v)
-    step-goes d w k e =
+        → turnIn b (record { search = w; ending = GoesOn }) ≡ step (problemIn b q) budget (stateIn b v)
+    step-goes d w e =
         let one : v .opened + 1 ≡ suc (v .opened) = omega arith in
         ap (λ (st : State). record { state = st; ending = none }) (e ∙ ap opened-to one)
         ∙ by-budget false (ne-eqb (v .opened) budget d)

@@ -28,7 +28,7 @@ use Rattle.route.proofs.RouteIndices.{known-indices}
 use Rattle.route.proofs.MaskFixings.{fixed-mem, masks-equal}
 use Rattle.search.specs.declared.state.Search.{Search}
 use Rattle.search.specs.Search.{State, free}
-use Rattle.search.specs.Values.{noFixings, waitingIn, bestIn, stateIn, Valid}
+use Rattle.search.specs.Values.{noFixings, waitingIn, isHeld, bestIn, boundOf, stateIn, Valid}
 use Rattle.search.specs.Claims.{ValidClaim}
 use Rattle.search.proofs.SearchState.{waiting-length}
 
@@ -94,8 +94,8 @@ beltsOr (some r) = r
 ids-of : {b : List ℕ} → Accepted b → (r : Route) → Known b r → idsOf r ≡ indicesOf (routeIn b r)
 ids-of ok r k = sym (known-indices ok r k)
 
-same-best : {b : List ℕ} → Accepted b → (v w : Search) → Valid b v → Valid b w → v .found ≡ w .found → (t : Bool) → v .found ≡ t
-    → bestIn b (v .found) (v .best) ≡ bestIn b (w .found) (w .best) → v .best ≡ w .best
+same-best : {b : List ℕ} → Accepted b → (v w : Search) → Valid b v → Valid b w → isHeld (v .bound) ≡ isHeld (w .bound) → (t : Bool) → isHeld (v .bound) ≡ t
+    → bestIn b (isHeld (v .bound)) (v .best) ≡ bestIn b (isHeld (w .bound)) (w .best) → v .best ≡ w .best
 same-best {b} ok v w valid also f true h e =
     let same : routeIn b (v .best) ≡ routeIn b (w .best) =
     ap (λ (t : Bool). beltsOr (bestIn b t (v .best))) (sym h) ∙ ap beltsOr e ∙ ap (λ (t : Bool). beltsOr (bestIn b t (w .best))) (sym f ∙ h) in
@@ -106,14 +106,16 @@ same-best {b} ok v w valid also f false h e = valid .unheld h ∙ sym (also .unh
 
 pub valid-claim : ValidClaim
 valid-claim b ok v w size long valid also e =
-    let best : bestIn b (v .found) (v .best) ≡ bestIn b (w .found) (w .best) = ap (λ (st : State). st .best) e in
-    let found : v .found ≡ w .found = sym (found-is b (v .found) (v .best)) ∙ ap isFound best ∙ found-is b (w .found) (w .best) in
+    let t = isHeld (v .bound) in
+    let u = isHeld (w .bound) in
+    let best : bestIn b t (v .best) ≡ bestIn b u (w .best) = ap (λ (st : State). st .best) e in
+    let found : t ≡ u = sym (found-is b t (v .best)) ∙ ap isFound best ∙ found-is b u (w .best) in
     let waiting : v .waiting ≡ w .waiting =
     ext-getD noFixings (v .waiting) (w .waiting) (size ∙ sym long) (λ i l. same-fixings b v w valid also e i) in
     λ k. record {
       waiting = waiting k;
       count = same-count b v w valid also e k;
       opened = e k .opened;
-      best = same-best ok v w valid also found (v .found) refl best k;
-      found = found k;
+      best = same-best ok v w valid also found t refl best k;
+      bound = (valid .bound-is ∙ ap boundOf best ∙ sym (also .bound-is)) k;
     }

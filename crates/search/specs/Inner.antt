@@ -7,20 +7,21 @@
 --   atPlace o             a place that was looked for, as the code has it
 --   countAt xs k          the count that the array xs has for place k
 -- Steps:
---   endedAs n t           how a search ends that n subproblems wait in, where t says whether a best is held
+--   endedAs t             how a search ends in which none waits, where t says whether a best is held
 --   childAt f q t         the masks f with the place q required, too, or else forbidden
 --   branchAt q            what becomes of a subproblem that is branched on the belt at the place q: where there is none, it is dropped
 --   testedAs q o          the same where its relaxed route is tested first: o is the setting that works, if one does
 --   heldAs o              the Route that holds the relaxed route o; an empty one where there is none
+--   priceOf o             what it costs; 0 where there is none
 --   betterIn b o t r      there is a relaxed route o, and it improves on the best r, where t says whether one is held
---   judgedIn b q f on t   what becomes of the masks f, where t says whether there is a relaxed route that improves on the best, and the test `on`
---                         which belts are on it
+--   judgedIn b q f on     what becomes of the masks f, where there is a relaxed route that improves on the best, and the test `on` says which belts
+--                         are on it; judgedBy t j: it is dropped where t says that there is none
 -- Answers:
 --   bestOf b v            what a search that found its best route comes to
 --
 -- Assumes nothing.
 use mathlib.Core.Path.{_≡_}
-use Prim.Native.Nat.{ℕ, zero, suc}
+use Prim.Native.Nat.{ℕ}
 use mathlib.Core.Bool.{Bool, true, false, not, _&&_, _||_}
 use mathlib.Core.Option.{Option, none, some}
 use mathlib.Core.List.{List, [], _∷_, map}
@@ -35,12 +36,13 @@ use Rattle.plan.specs.Lists.{countBy, keep, upto}
 use Rattle.plan.specs.Plan.{Belt, planOf, named}
 use Rattle.route.specs.declared.path.Route.{Route}
 use Rattle.route.specs.declared.relax.Fixings.{Fixings}
+use Rattle.route.specs.Routes.{cost}
 use Rattle.route.specs.Permission.{planTerms, termsOf, lowest}
 use Rattle.route.specs.Values.{packed, routeIn, routeOf, inMask, withPlace, subproblemIn}
 use Rattle.search.specs.declared.query.Query.{Query}
 use Rattle.search.specs.declared.state.Search.{Search}
 use Rattle.search.specs.declared.state.Ending.{Ending}
-use Rattle.search.specs.declared.state.Ending.the-variants.{Found, Nothing, Spent}
+use Rattle.search.specs.declared.state.Ending.the-variants.{Found, Nothing}
 use Rattle.search.specs.declared.state.Judged.{Judged}
 use Rattle.search.specs.declared.state.Judged.the-variants.{Drop, Best, Branch}
 use Rattle.search.specs.Branching.{pickOf}
@@ -73,10 +75,9 @@ countAt xs k = getD xs k 0
 
 -- ---- steps
 
-abbrev pub endedAs : ℕ → Bool → Ending
-endedAs zero true = Found
-endedAs zero false = Nothing
-endedAs (suc n) t = Spent
+abbrev pub endedAs : Bool → Ending
+endedAs true = Found
+endedAs false = Nothing
 
 abbrev pub childAt : Fixings → Place → Bool → Fixings
 childAt f q true = record { required = withPlace (f .required) q; forbidden = f .forbidden }
@@ -94,16 +95,23 @@ abbrev pub heldAs : Option (List Belt) → Route
 heldAs none = packed []
 heldAs (some r) = routeOf r
 
+abbrev pub priceOf : Option (List Belt) → ℕ
+priceOf none = 0
+priceOf (some r) = cost r
+
 abbrev pub betterIn : List ℕ → Option (List Belt) → Bool → Route → Bool
 betterIn b none t best = false
 betterIn b (some r) t best = improves r (bestIn b t best)
 
-abbrev pub judgedIn : List ℕ → Query → Fixings → (ℕ → Bool) → Bool → Judged
-judgedIn b q f on false = Drop
-judgedIn b q f on true =
+abbrev pub judgedIn : List ℕ → Query → Fixings → (ℕ → Bool) → Judged
+judgedIn b q f on =
     testedAs
     (pickedPlace (named (planOf b)) (pickOf (q .pick) (planOf b) (subproblemIn b f) on))
     (lowest (termsOf (planOf b) (q .trip)) on)
+
+abbrev pub judgedBy : Bool → Judged → Judged
+judgedBy true j = j
+judgedBy false j = Drop
 
 -- ---- answers
 

@@ -7,14 +7,15 @@
 --   firstSearch         a Search at its beginning
 --   waitingIn b xs n    the subproblems of the plan b that the first n masks of the array xs stand for, the last of them first: the newest
 --                       stands last in the array
+--   isHeld k            a Search with the bound k holds a best route
 --   bestIn b t r        the best route of the plan b that a Search holds, if t says that it holds one; stateIn b v: the state that it stands for
 --   endingIn e          the ending that the code's enum stands for, none where the search goes on
 --   turnIn b v          what a step handed back stands for
---   boundOf o           what a route may cost at most to improve on the best, o: as much as that, or any cost of a route where none is held;
---                       boundIn b v: the same of the best that a Search holds
+--   boundOf o           what a route may cost at most to improve on the best, o: as much as that, or any cost of a route where none is held
 --   Deep p xs           of the waiting subproblems each fixes at least as many named belts as there are older ones
 --   Valid b v           a Search of the plan b: its masks are over the named belts, each waiting subproblem fixes enough of them, the best
---                       is of belts of the plan, and what is not in use is 0. So equal states are equal values (Claims.antt)
+--                       is of belts of the plan and its bound is what that costs, and what is not in use is 0. So equal states are equal values
+--                       (Claims.antt)
 --   Ready b places belts offsets arcs exits clauses counts q
 --                       the tables of a search are those of the plan b: it is accepted, `places`, `belts` and `counts` are those of its named belts,
 --                       `offsets` and `arcs` its adjacency array, `exits` the named belts that leave each junction, `clauses` its rules;
@@ -29,7 +30,7 @@
 -- Assumes nothing.
 use mathlib.Core.Path.{_≡_}
 use Prim.Native.Nat.{ℕ, zero, suc, _+_, _-_, _≤_}
-use mathlib.Core.Bool.{Bool, true, false, _||_}
+use mathlib.Core.Bool.{Bool, true, false, not, _||_}
 use mathlib.Core.Option.{Option, none, some}
 use mathlib.Core.List.{List, [], _∷_, _++_, map}
 use lib.ListN.{length, getD, replicate}
@@ -43,9 +44,9 @@ use Rattle.plan.specs.Reading.{Accepted}
 use Rattle.route.specs.declared.path.Route.{Route}
 use Rattle.route.specs.declared.path.Trip.{Trip}
 use Rattle.route.specs.declared.relax.Fixings.{Fixings}
-use Rattle.route.specs.Routes.{wrongEnds, cost, costLimit}
+use Rattle.route.specs.Routes.{wrongEnds, cost}
 use Rattle.route.specs.Subproblems.{Subproblem, relaxed}
-use Rattle.route.specs.Values.{idsOf, packed, Known, routeIn, OfNamed, subproblemIn, namedPlaces, numbersOf, exitsOf, atMost, walkedOf, Clauses}
+use Rattle.route.specs.Values.{idsOf, packed, Known, routeIn, OfNamed, subproblemIn, namedPlaces, numbersOf, exitsOf, atMost, unbounded, walkedOf, Clauses}
 use Rattle.search.specs.declared.query.Query.{Query}
 use Rattle.search.specs.declared.pick.Counts.{Counts}
 use Rattle.search.specs.declared.state.Search.{Search}
@@ -77,18 +78,21 @@ abbrev pub maxWaiting : ℕ
 maxWaiting = maxNamed + 1
 
 abbrev pub firstSearch : Search
-firstSearch = record { waiting = replicate maxWaiting noFixings; count = 1; opened = 0; best = packed []; found = false }
+firstSearch = record { waiting = replicate maxWaiting noFixings; count = 1; opened = 0; best = packed []; bound = unbounded }
 
 abbrev pub waitingIn : List ℕ → List Fixings → ℕ → List Subproblem
 waitingIn b xs zero = []
 waitingIn b xs (suc n) = subproblemIn b (getD xs n noFixings) ∷ waitingIn b xs n
+
+abbrev pub isHeld : ℕ → Bool
+isHeld k = not (eqb k unbounded)
 
 abbrev pub bestIn : List ℕ → Bool → Route → Option (List Belt)
 bestIn b true r = some (routeIn b r)
 bestIn b false r = none
 
 abbrev pub stateIn : List ℕ → Search → State
-stateIn b v = record { waiting = waitingIn b (v .waiting) (v .count); opened = v .opened; best = bestIn b (v .found) (v .best) }
+stateIn b v = record { waiting = waitingIn b (v .waiting) (v .count); opened = v .opened; best = bestIn b (isHeld (v .bound)) (v .best) }
 
 abbrev pub endingIn : code.Ending → Option Ending
 endingIn GoesOn = none
@@ -100,11 +104,8 @@ abbrev pub turnIn : List ℕ → Stepped → Turn
 turnIn b v = record { state = stateIn b (v .search); ending = endingIn (v .ending) }
 
 abbrev pub boundOf : Option (List Belt) → ℕ
-boundOf none = costLimit - 1
+boundOf none = unbounded
 boundOf (some r) = cost r
-
-abbrev pub boundIn : List ℕ → Search → ℕ
-boundIn b v = boundOf (bestIn b (v .found) (v .best))
 
 abbrev pub Deep : Plan → List Subproblem → Type 0
 Deep p [] = Unit {0}
@@ -117,7 +118,8 @@ pub record Valid (b : List ℕ) (v : Search) : Type 0 where
   pub spare : (i : ℕ) → v .count ≤ i → getD (v .waiting) i noFixings ≡ noFixings
   pub known : Known b (v .best)
   pub rest-zero : v .best ≡ packed (idsOf (v .best))
-  pub unheld : v .found ≡ false → v .best ≡ packed []
+  pub unheld : isHeld (v .bound) ≡ false → v .best ≡ packed []
+  pub bound-is : v .bound ≡ boundOf (bestIn b (isHeld (v .bound)) (v .best))
 
 pub record Ready (b : List ℕ) (places belts offsets arcs exits clauses : List ℕ) (counts : Counts) (q : Query) : Type 0 where
   pub accepted : Accepted b
@@ -142,7 +144,7 @@ walkedBy true o array = array
 walkedBy false o array = walkedOf o array
 
 abbrev pub walkedIn : List ℕ → Query → Search → List ℕ → List ℕ
-walkedIn b q v array = walkedBy (eqb (v .count) 0 || eqb (v .opened) (q .budget)) (atMost (boundIn b v) (relaxedIn b (q .trip) (newestOf v))) array
+walkedIn b q v array = walkedBy (eqb (v .count) 0 || eqb (v .opened) (q .budget)) (atMost (v .bound) (relaxedIn b (q .trip) (newestOf v))) array
 
 abbrev pub stepIn : List ℕ → Query → Search → Turn
 stepIn b q v = step (problemIn b q) (q .budget) (stateIn b v)

@@ -8,11 +8,10 @@ use plan::bounds::JUNCTION_PLACES;
 use plan::bounds::MAX_NAMED;
 use plan::bounds::MAX_RECORDS;
 use plan::bounds::MAX_STEPS;
-use route::relax;
 ghost use mathlib.Core.Path.{_≡_};
 ghost use Rattle.search.specs.Search.{run};
 ghost use Rattle.search.specs.Answers.{problemIn};
-ghost use Rattle.search.specs.Values.{turnIn, Valid, boundIn, Ready};
+ghost use Rattle.search.specs.Values.{turnIn, Valid, Ready};
 
 // Makes steps until one ends the search. The tables are those of `step`. What a step hands back stays in one struct: to move the Search out of it
 // would copy it. All steps share the scratch arrays `ways` and `walked`.
@@ -29,15 +28,13 @@ pub fn run(
 ) -> Stepped
     requires { ⌜ Ready (now p) (now places) (now belts) (now offsets) (now arcs) (now exits) (now clauses) counts query ⌝ }
     ensures { λ v. ⌜ (turnIn (now (p .entry)) v ≡ run (problemIn (now (p .entry)) query) (query .budget))
-        × Valid (now (p .entry)) (v .search)
-        × (v .bound ≡ boundIn (now (p .entry)) (v .search)) ⌝ }
+        × Valid (now (p .entry)) (v .search) ⌝ }
 {
     let mut ways = [0u64; JUNCTION_PLACES];
     let mut walked = [0u16; MAX_STEPS];
     let mut stepped = Stepped {
         search: state::begin(),
         ending: Ending::GoesOn,
-        bound: relax::UNBOUNDED,
     };
     loop {
         let ending = stepped.ending;
@@ -53,7 +50,6 @@ pub fn run(
                     clauses,
                     counts,
                     query,
-                    stepped.bound,
                     &mut ways,
                     &mut walked,
                 );

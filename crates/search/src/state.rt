@@ -16,27 +16,27 @@ use route::path::Route;
 use route::relax;
 use route::relax::Fixings;
 ghost use mathlib.Core.Path.{_≡_};
-ghost use mathlib.Core.Bool.{true};
 ghost use Prim.Native.Nat.{_≤_, _<_};
 ghost use lib.ListN.{length, replicate};
 ghost use Rattle.plan.specs.Bounds.{junctionPlaces, maxSteps};
 ghost use Rattle.plan.specs.declared.named.Place.the-variants.{At};
 ghost use Rattle.plan.specs.Reading.{Accepted};
 ghost use Rattle.route.specs.Values.{OfNamed, hasBelt, Clauses};
-ghost use Rattle.search.specs.Values.{countsOf, turnIn, Valid, boundIn, firstSearch, noFixings, Ready, stepIn, walkedIn};
+ghost use Rattle.search.specs.Values.{countsOf, turnIn, Valid, isHeld, firstSearch, noFixings, Ready, stepIn, walkedIn};
 ghost use Rattle.search.specs.Inner.{endedAs, childAt, judgedIn};
 
 // How many subproblems can wait at once: each fixes as many named belts as there are older ones, or more.
 pub const MAX_WAITING: usize = MAX_NAMED + 1;
 
-// A search: the subproblems that wait are the first `count` of the array, the newest last; how many have been opened; and the best route so far, if
-// one is found. What is not in use is 0. The struct is passed by value, so it has no field that follows from the others.
+// A search: the subproblems that wait are the first `count` of the array, the newest last; how many have been opened; the best route so far, and what
+// it costs, or relax::UNBOUNDED where none is found. What is not in use is 0. The struct is passed by value: each field is 8 bytes wide, or an array,
+// because narrower ones are slow to copy.
 pub struct Search {
     pub waiting: [Fixings; MAX_WAITING],
     pub count: usize,
     pub opened: u64,
     pub best: Route,
-    pub found: bool,
+    pub bound: u64,
 }
 
 // How a search stands after a step.
@@ -55,9 +55,6 @@ pub enum Ending {
 pub struct Stepped {
     pub search: Search,
     pub ending: Ending,
-    // What a relaxed route may cost at most: the cost of the best route, or relax::UNBOUNDED where none is found. Kept here, so that no step
-    // has to sum it again.
-    pub bound: u64,
 }
 
 // What becomes of a subproblem that was taken.
@@ -93,25 +90,21 @@ pub fn begin() -> Search
             count: 0,
             belts: [BeltId(0); MAX_STEPS],
         },
-        found: false,
+        bound: relax::UNBOUNDED,
     }
 }
 
-// Steps 1 and 2: how a search ends where nothing waits, or where some wait and the budget is spent.
-fn ended(count: usize, found: bool) -> Ending
-    ensures { λ v. ⌜ v ≡ endedAs count found ⌝ }
+// Step 1: how a search ends where nothing waits.
+fn at_end(bound: u64) -> Ending
+    ensures { λ v. ⌜ v ≡ endedAs (isHeld bound) ⌝ }
 {
-    if count != 0 {
-        return Ending::Spent;
+    if bound == relax::UNBOUNDED {
+        return Ending::Nothing;
     }
-    if found {
-        return Ending::Found;
-    }
-    Ending::Nothing
+    Ending::Found
 }
 
-// What becomes of a subproblem whose relaxed route has the named belts of the mask: steps 4 to 6, if `better` says that there is such a route and it
-// improves on the best.
+// What becomes of a subproblem whose relaxed route improves on the best, and has the named belts of the mask: steps 4 to 6.
 fn judge(
     p: &[u8],
     clauses: &[u32],
@@ -119,17 +112,13 @@ fn judge(
     query: Query,
     fixings: Fixings,
     mask: u64,
-    better: bool,
 ) -> Judged
     requires { ⌜ Accepted (now p)
         × Clauses (now p) (now clauses)
         × (counts ≡ countsOf (now p))
-        × (better ≡ true → OfNamed (now p) mask) ⌝ }
-    ensures { λ v. ⌜ v ≡ judgedIn (now (p .entry)) query fixings (hasBelt (now (p .entry)) mask) better ⌝ }
+        × OfNamed (now p) mask ⌝ }
+    ensures { λ v. ⌜ v ≡ judgedIn (now (p .entry)) query fixings (hasBelt (now (p .entry)) mask) ⌝ }
 {
-    if !better {
-        return Judged::Drop;
-    }
     let setting = modes::lowest_setting(p, clauses, mask);
     match setting {
         Lowest::Works(lowest) => Judged::Best,
@@ -163,10 +152,10 @@ fn child(fixings: Fixings, k: usize, required: bool) -> Fixings
 impl Search {
     // One step. The tables are made once for all steps: the places of the plan's named belts (plan::named::named_places) and their indices
     // (route::relax::numbers), its adjacency array (plan::adjacency::decode), the named belts that leave each junction (route::relax::exits), its
-    // clauses (route::clauses::decode) and the counts (pick::rule_counts). `bound` is that of the search, as the last step handed it back. `ways` and
-    // `walked` are scratch arrays: `ways` is all 0 before and after; `walked` has the relaxed route of the opened subproblem, if there is one within the
-    // bound, over what it had before. Only this function writes to the Search: passing the struct (1.3 KB) to a helper by value would copy it there
-    // and back. The relaxed route is read from `walked` only if its cost equals the bound, or if it becomes the best.
+    // clauses (route::clauses::decode) and the counts (pick::rule_counts). `ways` and `walked` are scratch arrays: `ways` is all 0 before and after;
+    // `walked` has the relaxed route of the opened subproblem, if there is one within the bound, over what it had before. Only this function writes to
+    // the Search: passing the struct (1.3 KB) to a helper by value would copy it there and back. The relaxed route is read from `walked` only if its
+    // cost equals the bound, or if it becomes the best.
     pub fn step(
         mut self,
         p: &[u8],
@@ -178,27 +167,29 @@ impl Search {
         clauses: &[u32],
         counts: Counts,
         query: Query,
-        mut bound: u64,
         ways: &mut [u64; JUNCTION_PLACES],
         walked: &mut [u16; MAX_STEPS],
     ) -> Stepped
         requires { ⌜ Ready (now p) (now places) (now belts) (now offsets) (now arcs) (now exits) (now clauses) counts query
             × Valid (now p) self
             × (self .opened ≤ query .budget)
-            × (bound ≡ boundIn (now p) self)
             × (now ways ≡ replicate junctionPlaces 0)
             × (length (now walked) ≡ maxSteps) ⌝ }
         ensures { λ v. ⌜ (turnIn (now (p .entry)) v ≡ stepIn (now (p .entry)) query self)
             × Valid (now (p .entry)) (v .search)
-            × (v .bound ≡ boundIn (now (p .entry)) (v .search))
             × (now (ways .exit) ≡ now (ways .entry))
             × (now (walked .exit) ≡ walkedIn (now (p .entry)) query self (now (walked .entry))) ⌝ }
     {
-        if self.count == 0 || self.opened == query.budget {
+        if self.count == 0 {
             return Stepped {
                 search: self,
-                ending: ended(self.count, self.found),
-                bound: bound,
+                ending: at_end(self.bound),
+            };
+        }
+        if self.opened == query.budget {
+            return Stepped {
+                search: self,
+                ending: Ending::Spent,
             };
         }
         let top = self.count - 1;
@@ -210,6 +201,7 @@ impl Search {
         self.count = top;
         self.opened += 1;
         let trip = query.trip;
+        let bound = self.bound;
         let summary = relax::relaxed_route(
             p,
             places,
@@ -224,31 +216,31 @@ impl Search {
             walked,
         );
         let mut better = summary.cost <= bound;
-        if self.found && summary.cost == bound {
-            better = path::before(p, path::of_belts(walked, summary.count), self.best);
+        if summary.cost == bound {
+            better = path::lower(path::of_belts(walked, summary.count), self.best);
         }
-        let judged = judge(p, clauses, counts, query, fixings, summary.named, better);
-        match judged {
-            Judged::Drop => {}
-            Judged::Best => {
-                let route = path::of_belts(walked, summary.count);
-                self.best = route;
-                self.found = true;
-                bound = summary.cost;
-            }
-            Judged::Branch(k) => {
-                let older = child(fixings, k, query.order == 0);
-                let newer = child(fixings, k, query.order != 0);
-                waiting[top] = older;
-                waiting[top + 1] = newer;
-                self.count = top + 2;
+        if better {
+            let judged = judge(p, clauses, counts, query, fixings, summary.named);
+            match judged {
+                Judged::Drop => {}
+                Judged::Best => {
+                    let route = path::of_belts(walked, summary.count);
+                    self.best = route;
+                    self.bound = summary.cost;
+                }
+                Judged::Branch(k) => {
+                    let older = child(fixings, k, query.order == 0);
+                    let newer = child(fixings, k, query.order != 0);
+                    waiting[top] = older;
+                    waiting[top + 1] = newer;
+                    self.count = top + 2;
+                }
             }
         }
         self.waiting = waiting;
         Stepped {
             search: self,
             ending: Ending::GoesOn,
-            bound: bound,
         }
     }
 }

@@ -12,8 +12,7 @@ use Rattle.plan.specs.Plan.{beltId}
 use Rattle.plan.proofs.Lists.{test}
 use Rattle.route.specs.declared.path.Route.{Route}
 use Rattle.route.specs.Routes.{first}
-use Rattle.route.specs.Values.{idsOf}
-use Rattle.route.specs.Inner.{lowerIds}
+use Rattle.route.specs.Values.{idsOf, lowerIds}
 use Rattle.route.proofs.RouteOrder.{first-eq, first-ne}
 use Rattle.route.proofs.RouteBelts.{places, ids-next, ids-end}
 use Rattle.route.proofs.path.lower.Statement.{statement}
