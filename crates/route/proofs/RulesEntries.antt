@@ -7,7 +7,8 @@
 --                     the entry of a rule, and of a literal
 --   first-entry, rule-parts, literal-parts
 --                     the entry of record 0 in an array of all, and the two parts of that of a rule and of a literal
---   clauses-lent      an array of n entries has one for each record, if there are at most n records
+--   clauses-lent      an array of n entries has one for each record, if there are at most n records; ruled-lent: and the accepted plan is one that
+--                     it is of
 -- The literals of a rule, one after the other:
 --   LiteralsStored b old first now l
 --                     Invariant: storing the entries from literal l on in `now` gives the same array as storing those from `first` on in `old`
@@ -39,7 +40,7 @@ use Rattle.plan.specs.Reading.{Accepted, IsRule, IsLiteral, isRuleAt, isLiteral
 use Rattle.plan.proofs.Lists.{test, never, untrue, in-mem, in-joined, length-iota, getD-first, map-first}
 use Rattle.plan.proofs.Reading.{first-rule-is, next-rule-is, first-literal-is, next-literal-is, rule-chain-end, rule-chain-next, literal-chain-end, literal-chain-next}
 use Rattle.plan.proofs.Reading.{records-more, rule-test, literal-test, not-rule, rule-low, literal-low, rule-on-chain, literal-on-chain}
-use Rattle.route.specs.Values.{namedPlaces, codeIn, ruleEntry, literalEntry, entryBy, entryOf, clausesIn, Clauses}
+use Rattle.route.specs.Values.{namedPlaces, codeIn, ruleEntry, literalEntry, entryBy, entryOf, clausesIn, Clauses, Ruled}
 use Rattle.route.specs.Inner.{stores}
 
 -- ---- storing
@@ -94,6 +95,9 @@ pub clauses-lent : {b : List ℕ} (n : ℕ) {cs : List ℕ} → records b ≤ n 
 clauses-lent {b} n {cs} h e =
     let size : length cs ≡ n = ap length e ∙ length-clauses b n in
     record { whole = e ∙ sym (ap (λ (m : ℕ). clausesIn m b) size); records-fit = omega arith }
+
+pub ruled-lent : {b : List ℕ} → Accepted b → (n : ℕ) {cs : List ℕ} → records b ≤ n → cs ≡ clausesIn n b → Ruled b cs
+ruled-lent ok n h e = record { accepted = ok; clauses = clauses-lent n h e }
 
 -- a number of two parts
 parts : (x y n : ℕ) → n ≡ x + fieldLimit * y → x < maxRecords → (n % fieldLimit ≡ x) × (n / fieldLimit ≡ y)

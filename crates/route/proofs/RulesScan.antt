@@ -1,7 +1,10 @@
 -- Invariants of the loops of the rule test, over the chain of rules and over the chain of a rule's literals.
 --
 --   rule-shorter, literal-shorter
---                           the measures: the chain from the next rule on is shorter, and so for literals
+--                           the measures where the plan is at hand: the chain from the next rule on is shorter, and so for literals
+--   above i                 the measure where it is not: how many indices there are from i on, none from 0, which ends a chain
+--   rule-rises, literal-rises
+--                           there are fewer from the next rule on, and so for literals
 --   RulesAhead b on σ r     testing the rules from r on gives the same result as testing all rules of the plan b
 --   rules-first, -met, -unmet, -done
 --                           it holds at first, and past a rule that is met; a rule that is not met gives the answer, and so does the end
@@ -13,14 +16,16 @@
 -- Assumes nothing.
 use mathlib.Core.Path.{_≡_, refl, sym, _∙_, ap, subst}
 use mathlib.Core.Bool.{Bool, true, false, _&&_, _||_}
-use Prim.Native.Nat.{ℕ, _<_}
+use Prim.Native.Nat.{ℕ, zero, suc, _-_, _%_, _≤_, _<_}
 use mathlib.Core.List.{List}
 use native.Mathlib.Omega.{arith}
 use lib.ListN.{length}
+use Rattle.plan.specs.Bounds.{maxRecords}
 use Rattle.plan.specs.declared.read.Literal.{Literal}
 use Rattle.plan.specs.Plan.{planOf, literalAt}
 use Rattle.plan.specs.Reading.{Accepted, IsRule, IsLiteral, firstRule, nextRule, firstLiteral, nextLiteral, rulesFrom, literalsFrom}
 use Rattle.plan.proofs.Reading.{rules-from, rules-end, rules-next, first-rule-is, next-rule-is, literals-end, literals-next, first-literal-is, next-literal-is}
+use Rattle.plan.proofs.Reading.{rule-low, literal-low}
 use Rattle.route.specs.Permission.{holds, met, allMet}
 
 abbrev pub RulesAhead : List ℕ → (ℕ → Bool) → ℕ → ℕ → Type 0
@@ -28,6 +33,14 @@ RulesAhead b on σ r = ((r ≡ 0 → ⊥) → IsRule b r) × (allMet (rulesFrom 
 
 abbrev pub LiteralsAhead : List ℕ → (ℕ → Bool) → ℕ → ℕ → ℕ → Type 0
 LiteralsAhead b on σ first l = ((l ≡ 0 → ⊥) → IsLiteral b l) × (met on σ (literalsFrom b l) ≡ met on σ (literalsFrom b first))
+
+abbrev pub above : ℕ → ℕ
+above i = (maxRecords - i) % maxRecords
+
+-- from a record of a chain to the next, which stands higher or is none
+rises : (i n : ℕ) → 1 ≤ i → i < maxRecords → ((n ≡ 0 → ⊥) → (i < n) × (n < maxRecords)) → above n < above i
+rises i zero l u h = omega arith
+rises i (suc n) l u h = let (higher, low) = h (λ e. omega arith) in omega arith
 
 module _ {b : List ℕ} (ok : Accepted b) where
   pub rule-shorter : (r : ℕ) → IsRule b r → (n : ℕ) → n ≡ nextRule b r → length (rulesFrom b n) < length (rulesFrom b r)
@@ -41,6 +54,18 @@ module _ {b : List ℕ} (ok : Accepted b) where
       let s = ap length (literals-next ok l o) in
       let k = ap (λ (i : ℕ). length (literalsFrom b i)) e in
       omega arith
+
+  pub rule-rises : (r : ℕ) → IsRule b r → (n : ℕ) → n ≡ nextRule b r → above n < above r
+  rule-rises r o n e =
+      let low = rule-low ok r o in
+      subst (λ (i : ℕ). above i < above r) (sym e)
+      (rises r (nextRule b r) (omega (arith, low .0)) (low .2) (λ d. let next = next-rule-is ok r o d in (next .0, rule-low ok (nextRule b r) (next .1) .2)))
+
+  pub literal-rises : (l : ℕ) → IsLiteral b l → (n : ℕ) → n ≡ nextLiteral b l → above n < above l
+  literal-rises l o n e =
+      let low = literal-low ok l o in
+      subst (λ (i : ℕ). above i < above l) (sym e)
+      (rises l (nextLiteral b l) (omega (arith, low .0)) (low .2) (λ d. let next = next-literal-is ok l o d in (next .0, literal-low ok (nextLiteral b l) (next .1) .2)))
 
   module _ (on : ℕ → Bool) (σ : ℕ) where
     -- ---- rules

@@ -37,6 +37,8 @@
 --   entryOf b i      the entry of record i of the plan b: of record 0 the first rule, of a rule and of a literal the above, of any other 0 (entryBy)
 --   clausesIn n b    the entries of the plan b by record index, as an array of n
 --   Clauses b cs     the array cs has the entries of the plan b, and one for each of its records
+--   Ruled b cs       the plan b is accepted, and the array cs has its clauses: b is a plan that cs is of. The rule test does not see the plan, so its
+--                    contracts say what it answers for every such plan
 --   caseOf b trip h  the case of the sheet check
 --
 -- Assumes nothing.
@@ -58,7 +60,7 @@ use Rattle.plan.specs.Bounds.{fieldLimit, junctionPlaces, maxNamed, maxRecords,
 use Rattle.plan.specs.Lists.{keep, upto}
 use Rattle.plan.specs.Records.{records}
 use Rattle.plan.specs.Plan.{Belt, planOf, literalAt, indicesOf, leaving, named, beltId, listed, placeOf, placesOf, placeIn}
-use Rattle.plan.specs.Reading.{IsBelt, isRuleAt, isLiteralAt, firstRule, nextRule, firstLiteral, nextLiteral}
+use Rattle.plan.specs.Reading.{Accepted, IsBelt, isRuleAt, isLiteralAt, firstRule, nextRule, firstLiteral, nextLiteral}
 use Rattle.route.specs.declared.path.Route.{Route}
 use Rattle.route.specs.declared.sheet.Sheet.{Sheet}
 use Rattle.route.specs.declared.modes.Lowest.{Lowest}
@@ -206,6 +208,10 @@ clausesIn n b = map (entryOf b) (upto 0 n)
 pub record Clauses (b cs : List ℕ) : Type 0 where
   pub whole : cs ≡ clausesIn (length cs) b
   pub records-fit : records b ≤ length cs
+
+pub record Ruled (b cs : List ℕ) : Type 0 where
+  pub accepted : Accepted b
+  pub clauses : Clauses b cs
 
 -- ---- the sheet check
 

@@ -1,15 +1,14 @@
 // The lowest setting of the modes that meets every rule. In a setting mode m counts 2^(m-1).
 use crate::rules;
-use plan::read;
 use plan::read::ModeId;
 ghost use mathlib.Core.Path.{_≡_};
-ghost use Prim.Native.Nat.{_+_, _^_, _≤_};
+ghost use mathlib.Core.List.{List};
+ghost use Prim.Native.Nat.{ℕ, _+_, _^_, _≤_};
 ghost use Rattle.plan.specs.Bounds.{maxModes};
 ghost use Rattle.plan.specs.Lists.{iota};
 ghost use Rattle.plan.specs.Plan.{planOf};
-ghost use Rattle.plan.specs.Reading.{Accepted};
 ghost use Rattle.route.specs.Permission.{allMet, find, planTerms, lowest};
-ghost use Rattle.route.specs.Values.{settingIn, OfNamed, hasBelt, Clauses};
+ghost use Rattle.route.specs.Values.{settingIn, OfNamed, hasBelt, Ruled};
 
 // The lowest setting that works, or that none does.
 pub enum Lowest {
@@ -19,51 +18,62 @@ pub enum Lowest {
 
 // The lowest setting that works and has the modes above this one as `setting` has them: this mode and the lower ones are tried, the highest first.
 // `belts` is the mask of the named belts on the route. ModeId(0) says that every mode is set.
-fn settle(p: &[u8], clauses: &[u32], belts: u64, mode: ModeId, setting: u16) -> Lowest
-    requires { ⌜ Accepted (now p)
-        × Clauses (now p) (now clauses)
-        × OfNamed (now p) belts
+fn settle(clauses: &[u32], belts: u64, mode: ModeId, setting: u16) -> Lowest
+    requires { ⌜ ((b : List ℕ)
+        × Ruled b (now clauses)
+        × OfNamed b belts
         × (mode .0 ≤ maxModes)
-        × (setting + 2 ^ mode .0 ≤ 2 ^ maxModes) ⌝ }
-    ensures { λ v. ⌜ settingIn v ≡ find (allMet (planOf (now (p .entry)) .rules) (hasBelt (now (p .entry)) belts)) (iota setting (2 ^ mode .0)) ⌝ }
+        × (setting + 2 ^ mode .0 ≤ 2 ^ maxModes)) ⌝ }
+    ensures { λ v. ⌜ ((b : List ℕ)
+        → Ruled b (now (clauses .entry))
+        → OfNamed b belts
+        → settingIn v ≡ find (allMet (planOf b .rules) (hasBelt b belts)) (iota setting (2 ^ mode .0))) ⌝ }
 {
     if mode.0 == 0 {
-        if rules::all_met(p, clauses, belts, setting) {
+        if rules::all_met(clauses, belts, setting) {
             Lowest::Works(setting)
         } else {
             Lowest::Nothing
         }
     } else {
-        try_both(p, clauses, belts, mode, setting)
+        try_both(clauses, belts, mode, setting)
     }
 }
 
 // The same, where a mode is left: off is tried before on.
-fn try_both(p: &[u8], clauses: &[u32], belts: u64, mode: ModeId, setting: u16) -> Lowest
-    requires { ⌜ Accepted (now p)
-        × Clauses (now p) (now clauses)
-        × OfNamed (now p) belts
+fn try_both(clauses: &[u32], belts: u64, mode: ModeId, setting: u16) -> Lowest
+    requires { ⌜ ((b : List ℕ)
+        × Ruled b (now clauses)
+        × OfNamed b belts
         × (1 ≤ mode .0)
         × (mode .0 ≤ maxModes)
-        × (setting + 2 ^ mode .0 ≤ 2 ^ maxModes) ⌝ }
-    ensures { λ v. ⌜ settingIn v ≡ find (allMet (planOf (now (p .entry)) .rules) (hasBelt (now (p .entry)) belts)) (iota setting (2 ^ mode .0)) ⌝ }
+        × (setting + 2 ^ mode .0 ≤ 2 ^ maxModes)) ⌝ }
+    ensures { λ v. ⌜ ((b : List ℕ)
+        → Ruled b (now (clauses .entry))
+        → OfNamed b belts
+        → settingIn v ≡ find (allMet (planOf b .rules) (hasBelt b belts)) (iota setting (2 ^ mode .0))) ⌝ }
 {
     let lower = mode.0 - 1;
     let with_mode = setting + (1u16 << lower);
-    let off = settle(p, clauses, belts, ModeId(lower), setting);
+    let off = settle(clauses, belts, ModeId(lower), setting);
     match off {
         Lowest::Works(low) => Lowest::Works(low),
-        Lowest::Nothing => settle(p, clauses, belts, ModeId(lower), with_mode),
+        Lowest::Nothing => settle(clauses, belts, ModeId(lower), with_mode),
     }
 }
 
 // The lowest setting under which every rule is met, where the named belts of the mask `belts` are on the route (masks::on_route): the rule test of
-// a route. `clauses` are those of the plan (clauses::decode).
-pub fn lowest_setting(p: &[u8], clauses: &[u32], belts: u64) -> Lowest
-    requires { ⌜ Accepted (now p)
-        × Clauses (now p) (now clauses)
-        × OfNamed (now p) belts ⌝ }
-    ensures { λ v. ⌜ settingIn v ≡ lowest (planTerms (planOf (now (p .entry)))) (hasBelt (now (p .entry)) belts) ⌝ }
+// a route. `modes` is how many modes the plan has (plan::read::modes), and `clauses` are its clauses (clauses::decode).
+pub fn lowest_setting(modes: usize, clauses: &[u32], belts: u64) -> Lowest
+    requires { ⌜ ((b : List ℕ)
+        × Ruled b (now clauses)
+        × OfNamed b belts
+        × (modes ≡ planOf b .modes)) ⌝ }
+    ensures { λ v. ⌜ ((b : List ℕ)
+        → Ruled b (now (clauses .entry))
+        → OfNamed b belts
+        → modes ≡ planOf b .modes
+        → settingIn v ≡ lowest (planTerms (planOf b)) (hasBelt b belts)) ⌝ }
 {
-    settle(p, clauses, belts, ModeId(read::modes(p) as u16), 0)
+    settle(clauses, belts, ModeId(modes as u16), 0)
 }

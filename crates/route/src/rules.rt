@@ -8,11 +8,12 @@ use plan::bounds::MAX_NAMED;
 use plan::bounds::MAX_RECORDS;
 use plan::named;
 ghost use mathlib.Core.Path.{_≡_};
-ghost use Prim.Native.Nat.{_<_};
+ghost use mathlib.Core.List.{List};
+ghost use Prim.Native.Nat.{ℕ, _<_};
 ghost use Rattle.plan.specs.Plan.{planOf};
 ghost use Rattle.plan.specs.Reading.{Accepted};
 ghost use Rattle.route.specs.Permission.{passes, allMet};
-ghost use Rattle.route.specs.Values.{Known, routeIn, OfNamed, hasBelt, Clauses};
+ghost use Rattle.route.specs.Values.{Known, routeIn, OfNamed, hasBelt, Ruled};
 ghost use Rattle.route.specs.Inner.{isTrue};
 
 // What mode 1 counts in a mask of variables. The modes stand behind the places of the named belts, in the order in which a setting has them.
@@ -27,12 +28,15 @@ fn is_true(on: u64, code: u32) -> bool
 }
 
 // Whether every rule has a literal that holds, where the named belts of the mask `belts` are on the route. The scan of a rule stops at its first
-// literal that holds.
-pub fn all_met(p: &[u8], clauses: &[u32], belts: u64, setting: u16) -> bool
-    requires { ⌜ Accepted (now p)
-        × Clauses (now p) (now clauses)
-        × OfNamed (now p) belts ⌝ }
-    ensures { λ v. ⌜ v ≡ allMet (planOf (now (p .entry)) .rules) (hasBelt (now (p .entry)) belts) setting ⌝ }
+// literal that holds. `clauses` are those of a plan (clauses::decode), and the rules are those of any plan that has these clauses.
+pub fn all_met(clauses: &[u32], belts: u64, setting: u16) -> bool
+    requires { ⌜ ((b : List ℕ)
+        × Ruled b (now clauses)
+        × OfNamed b belts) ⌝ }
+    ensures { λ v. ⌜ ((b : List ℕ)
+        → Ruled b (now (clauses .entry))
+        → OfNamed b belts
+        → v ≡ allMet (planOf b .rules) (hasBelt b belts) setting) ⌝ }
 {
     let on = belts + (setting as u64) * MODE_1;
     let mut next = clauses[0];
@@ -61,5 +65,5 @@ pub fn met_by(p: &[u8], route: Route, setting: u16) -> bool
     let places = named::named_places(p);
     let mut clauses = [0u32; MAX_RECORDS];
     clauses::decode(p, &places, &mut clauses);
-    all_met(p, &clauses, masks::on_route(&places, route), setting)
+    all_met(&clauses, masks::on_route(&places, route), setting)
 }

@@ -13,6 +13,7 @@ use plan::bounds::RECORD_BYTES;
 use plan::check::Verdict;
 use plan::named;
 use plan::named::Named;
+use plan::read;
 use plan::refusal;
 use plan::refusal::Refusal;
 use route::clauses;
@@ -90,10 +91,12 @@ fn write_best(
     ensures { λ v. ⌜ Told (replyOf v) (now (out .entry)) (now (out .exit)) (bestOf (now (p .entry)) search) ⌝ }
 {
     let route = search.best;
+    let mask = masks::on_route(places, route);
+    let lowest = modes::lowest_setting(read::modes(p), clauses, mask);
     let sheet = Sheet {
         route: route,
         cost: path::cost(p, route),
-        setting: setting_of(modes::lowest_setting(p, clauses, masks::on_route(places, route))),
+        setting: setting_of(lowest),
     };
     let size = sheet::write(out, sheet);
     Answer::Found(search.opened, size)

@@ -7,6 +7,7 @@ use plan::bounds::MAX_NAMED;
 use plan::bounds::MAX_RECORDS;
 use plan::bounds::MAX_STEPS;
 use plan::named::Place;
+use plan::read;
 use plan::read::BeltId;
 use route::masks;
 use route::modes;
@@ -119,7 +120,7 @@ fn judge(
         × OfNamed (now p) mask ⌝ }
     ensures { λ v. ⌜ v ≡ judgedIn (now (p .entry)) query fixings (hasBelt (now (p .entry)) mask) ⌝ }
 {
-    let setting = modes::lowest_setting(p, clauses, mask);
+    let setting = modes::lowest_setting(read::modes(p), clauses, mask);
     match setting {
         Lowest::Works(lowest) => Judged::Best,
         Lowest::Nothing => {

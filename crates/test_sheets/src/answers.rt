@@ -86,7 +86,8 @@ fn lowest_of(p: &[u8], r: Route) -> Lowest
     let places = plan::named::named_places(p);
     let mut clauses = [0u32; MAX_RECORDS];
     route::clauses::decode(p, &places, &mut clauses);
-    route::modes::lowest_setting(p, &clauses, route::masks::on_route(&places, r))
+    let mask = route::masks::on_route(&places, r);
+    route::modes::lowest_setting(plan::read::modes(p), &clauses, mask)
 }
 
 // The lowest setting of a route, and its sheet.

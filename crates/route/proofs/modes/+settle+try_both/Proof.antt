@@ -23,28 +23,28 @@ use Rattle.route.proofs.rules.all_met.Reads as all-met-reads
 use Rattle.route.proofs.modes.+settle+try_both.{statement}
 use Rattle.route.proofs.modes.+settle+try_both.Tie.{close}
 
-abbrev μ-settle : Measures 2 settle-kinds.ps ℕ
-μ-settle κs a = 2 * a .1 .1 .1 .0 .0 + 1
+abbrev μ-settle : Measures 1 settle-kinds.ps ℕ
+μ-settle κs a = 2 * a .1 .1 .0 .0 + 1
 
-abbrev μ-try-both : Measures 2 try-both-kinds.ps ℕ
-μ-try-both κs a = 2 * a .1 .1 .1 .0 .0
+abbrev μ-try-both : Measures 1 try-both-kinds.ps ℕ
+μ-try-both κs a = 2 * a .1 .1 .0 .0
 
 -- the test that the settings are put to
 abbrev works : List ℕ → ℕ → ℕ → Bool
-works p belts = allMet (planOf p .rules) (hasBelt p belts)
+works b belts = allMet (planOf b .rules) (hasBelt b belts)
 
-abbrev settle-at : ℕ → In 2 settle-kinds.ps
-settle-at t = and 2 settle-kinds.ps (is 2 settle-kinds.ps μ-settle t) settle.Pre
+abbrev settle-at : ℕ → In 1 settle-kinds.ps
+settle-at t = and 1 settle-kinds.ps (is 1 settle-kinds.ps μ-settle t) settle.Pre
 
-abbrev settle-below : ℕ → In 2 settle-kinds.ps
-settle-below t = and 2 settle-kinds.ps (falls 2 settle-kinds.ps _<_ μ-settle t) settle.Pre
+abbrev settle-below : ℕ → In 1 settle-kinds.ps
+settle-below t = and 1 settle-kinds.ps (falls 1 settle-kinds.ps _<_ μ-settle t) settle.Pre
 
-abbrev try-both-at : ℕ → In 2 try-both-kinds.ps
-try-both-at t = and 2 try-both-kinds.ps (is 2 try-both-kinds.ps μ-try-both t) try-both.Pre
+abbrev try-both-at : ℕ → In 1 try-both-kinds.ps
+try-both-at t = and 1 try-both-kinds.ps (is 1 try-both-kinds.ps μ-try-both t) try-both.Pre
 
-abbrev try-both-below : ℕ → In 2 try-both-kinds.ps
+abbrev try-both-below : ℕ → In 1 try-both-kinds.ps
 try-both-below t =
-    and 2 try-both-kinds.ps (falls 2 try-both-kinds.ps _<_ μ-try-both t) try-both.Pre
+    and 1 try-both-kinds.ps (falls 1 try-both-kinds.ps _<_ μ-try-both t) try-both.Pre
 
 settle-all-met-requires : (t : ℕ) → settle-lts.Need-all-met-requires (
   all-met-reads.Asked,
@@ -52,7 +52,7 @@ settle-all-met-requires : (t : ℕ) → settle-lts.Need-all-met-requires (
   try-both-below t,
   try-both.Post,
 ) (settle-at t) settle.Post
-settle-all-met-requires t c κs = let h = c .before .before .before .before .pre .1 in (h .0, h .1, h .2)
+settle-all-met-requires t c κs = let h = c .before .before .before .pre .1 in (h .0, h .1, h .2)
 
 settle-try-both-requires : (t : ℕ) → settle-lts.Need-try-both-requires (
   all-met-reads.Asked,
@@ -61,7 +61,7 @@ settle-try-both-requires : (t : ℕ) → settle-lts.Need-try-both-requires (
   try-both.Post,
 ) (settle-at t) settle.Post
 settle-try-both-requires t c κs =
-    let h = c .before .before .before .before .pre .1 in
+    let h = c .before .before .before .pre .1 in
     (omega arith, (h .0, h .1, h .2, omega arith, h .3, h .4))
 
 settle-returns : (t : ℕ) → settle-lts.Need-returns (
@@ -71,10 +71,11 @@ settle-returns : (t : ℕ) → settle-lts.Need-returns (
   try-both.Post,
 ) (settle-at t) settle.Post
 settle-returns t c =
-    let start = c .before .before .before .before .before .before in
+    let start = c .before .before .before .before .before in
     let a = start .args in
-    let tested = sym (c .before .all-met .ensures) ∙ c .if2 .taken in
-    sym (settle-none (works (a .p .now) (a .belts)) (a .mode .0) (a .setting) (c .before .before .if1 .taken) true tested)
+    λ b ruled named.
+    let tested = sym (c .before .all-met .ensures b ruled named) ∙ c .if2 .taken in
+    sym (settle-none (works b (a .belts)) (a .mode .0) (a .setting) (c .before .before .if1 .taken) true tested)
 
 settle-returns-2 : (t : ℕ) → settle-lts.Need-returns-2 (
   all-met-reads.Asked,
@@ -83,10 +84,11 @@ settle-returns-2 : (t : ℕ) → settle-lts.Need-returns-2 (
   try-both.Post,
 ) (settle-at t) settle.Post
 settle-returns-2 t c =
-    let start = c .before .before .before .before .before .before in
+    let start = c .before .before .before .before .before in
     let a = start .args in
-    let tested = sym (c .before .all-met .ensures) ∙ c .if2 .left in
-    sym (settle-none (works (a .p .now) (a .belts)) (a .mode .0) (a .setting) (c .before .before .if1 .taken) false tested)
+    λ b ruled named.
+    let tested = sym (c .before .all-met .ensures b ruled named) ∙ c .if2 .left in
+    sym (settle-none (works b (a .belts)) (a .mode .0) (a .setting) (c .before .before .if1 .taken) false tested)
 
 settle-returns-3 : (t : ℕ) → settle-lts.Need-returns-3 (
   all-met-reads.Asked,
@@ -99,18 +101,18 @@ settle-returns-3 t c = c .try-both .ensures
 try-both-sub-lower :
     (t : ℕ) →
     try-both-lts.Need-sub-lower (settle-below t, settle.Post) (try-both-at t) try-both.Post
-try-both-sub-lower t c = let start = c .before .before .before in omega (arith, start .pre .1 .3)
+try-both-sub-lower t c = let start = c .before .before in omega (arith, start .pre .1 .3)
 
 try-both-shl-with-mode :
     (t : ℕ) →
     try-both-lts.Need-shl-with-mode (settle-below t, settle.Post) (try-both-at t) try-both.Post
-try-both-shl-with-mode t c = let start = c .before .before .before in omega (arith, start .pre .1 .4)
+try-both-shl-with-mode t c = let start = c .before .before in omega (arith, start .pre .1 .4)
 
 try-both-add-with-mode :
     (t : ℕ) →
     try-both-lts.Need-add-with-mode (settle-below t, settle.Post) (try-both-at t) try-both.Post
 try-both-add-with-mode t c =
-    let start = c .before .before .before in
+    let start = c .before .before in
     let m = start .args .mode .0 in
     let h = start .pre .1 in
     omega (arith, h .5, halves m (h .3), weight m (h .4))
@@ -120,7 +122,7 @@ try-both-settle-requires : (t : ℕ) → try-both-lts.Need-settle-requires (
   settle.Post,
 ) (try-both-at t) try-both.Post
 try-both-settle-requires t c κs =
-    let start = c .before .before .before in
+    let start = c .before .before in
     let m = start .args .mode .0 in
     let h = start .pre .1 in
     (omega (arith, h .3), (h .0, h .1, h .2, omega (arith, h .4), omega (arith, h .5, halves m (h .3))))
@@ -140,7 +142,7 @@ try-both-settle-requires-2 : (t : ℕ) → try-both-lts.Need-settle-requires-2 (
   settle.Post,
 ) (try-both-at t) try-both.Post
 try-both-settle-requires-2 t c κs =
-    let start = c .before .before .before .before .before .before in
+    let start = c .before .before .before .before .before in
     let m = start .args .mode .0 in
     let h = start .pre .1 in
     (omega (arith, h .3), (h .0, h .1, h .2, omega (arith, h .4), omega (arith, h .5, halves m (h .3), weight m (h .4))))
@@ -149,27 +151,29 @@ try-both-returns :
     (t : ℕ) →
     try-both-lts.Need-returns (settle-below t, settle.Post) (try-both-at t) try-both.Post
 try-both-returns t c =
-    let start = c .before .before .before .before .before .before .before in
+    let start = c .before .before .before .before .before .before in
     let a = start .args in
     let m = a .mode .0 in
-    let f = works (a .p .now) (a .belts) in
+    λ b ruled named.
+    let f = works b (a .belts) in
     let on-half = find f (iota (a .setting + 2 ^ (m - 1)) (2 ^ (m - 1))) in
     sym (settle-both f m (a .setting) (start .pre .1 .3)
-    ∙ ap (λ (o : Option ℕ). otherwise o on-half) (sym (c .before .before .before .settle .ensures) ∙ ap settingIn (c .before .off .given .1)))
+    ∙ ap (λ (o : Option ℕ). otherwise o on-half) (sym (c .before .before .before .settle .ensures b ruled named) ∙ ap settingIn (c .before .off .given .1)))
 
 try-both-returns-2 :
     (t : ℕ) →
     try-both-lts.Need-returns-2 (settle-below t, settle.Post) (try-both-at t) try-both.Post
 try-both-returns-2 t c =
-    let start = c .before .before .before .before .before .before .before in
+    let start = c .before .before .before .before .before .before in
     let a = start .args in
     let m = a .mode .0 in
-    let f = works (a .p .now) (a .belts) in
+    λ b ruled named.
+    let f = works b (a .belts) in
     let on-half = find f (iota (a .setting + 2 ^ (m - 1)) (2 ^ (m - 1))) in
-    c .settle2 .ensures
+    c .settle2 .ensures b ruled named
     ∙ ap (λ (w : ℕ). find f (iota (a .setting + w) (2 ^ (m - 1)))) (weight m (start .pre .1 .4))
     ∙ sym (settle-both f m (a .setting) (start .pre .1 .3)
-    ∙ ap (λ (o : Option ℕ). otherwise o on-half) (sym (c .before .before .before .settle .ensures) ∙ ap settingIn (c .before .enum-told .given .1)))
+    ∙ ap (λ (o : Option ℕ). otherwise o on-half) (sym (c .before .before .before .settle .ensures b ruled named) ∙ ap settingIn (c .before .enum-told .given .1)))
 
 pub +settle+try-both-spec : {M : Type 1} → statement M
 +settle+try-both-spec = close μ-settle μ-try-both (λ t. settle-lts.spec (

@@ -2,7 +2,7 @@
 use mathlib.Core.Path.{_≡_, _∙_, ap}
 use Prim.Native.Nat.{ℕ, _^_, _≤_}
 use native.Mathlib.Omega.{arith}
-use borrow.Author.Needs.{needs}
+use Rattle.plan.specs.Bounds.{maxModes}
 use Rattle.plan.specs.Lists.{iota}
 use Rattle.plan.specs.Plan.{planOf}
 use Rattle.plan.proofs.Reading.{plan-sizes}
@@ -12,28 +12,23 @@ use Rattle.route.proofs.RulesLowest.{all-modes}
 use Rattle.route.proofs.modes.lowest_setting.Statement.{statement}
 use Rattle.route.proofs.modes.lowest_setting.Tie as tie
 
-modes-requires : tie.Need-modes-requires
-modes-requires c κs = search needs
+few : (c : tie.Start) → c .args .modes ≤ maxModes
+few c = omega (arith, c .pre .3, plan-sizes (c .pre .1 .accepted) .2)
 
-cast-t5 : tie.Need-cast-t5
-cast-t5 c =
-    let start = c .before .before .before in
-    omega (arith, c .modes .ensures, plan-sizes (start .pre .0) .2)
+cast-t4 : tie.Need-cast-t4
+cast-t4 c = omega (arith, few (c .before))
 
 settle-requires : tie.Need-settle-requires
 settle-requires c κs =
-    let pre = c .before .before .before .pre in
-    let few = plan-sizes (pre .0) .2 in
-    let most : c .modes .result ≤ 10 = omega (arith, c .modes .ensures, few) in
-    (pre .0, pre .1, pre .2, most, omega (arith, all-modes (c .modes .result) most))
+    let start = c .before in
+    let w = start .pre in
+    (w .0, w .1, w .2, few start, omega (arith, all-modes (start .args .modes) (few start)))
 
 returns : tie.Need-returns
 returns c =
-    let counted = c .before in
-    let start = counted .before .before .before in
-    let p = start .args .p .now in
-    let on = hasBelt p (start .args .belts) in
-    c .settle .ensures ∙ ap (λ (m : ℕ). find (works (planTerms (planOf p)) on) (iota 0 (2 ^ m))) (counted .modes .ensures)
+    let a = c .before .before .args in
+    λ b ruled named modes.
+    c .settle .ensures b ruled named ∙ ap (λ (m : ℕ). find (works (planTerms (planOf b)) (hasBelt b (a .belts))) (iota 0 (2 ^ m))) modes
 
 pub lowest-setting-spec : {M : Type 1} → statement M
-lowest-setting-spec = tie.close (tie.spec modes-requires cast-t5 settle-requires returns)
+lowest-setting-spec = tie.close (tie.spec cast-t4 settle-requires returns)

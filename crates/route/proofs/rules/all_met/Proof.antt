@@ -1,16 +1,17 @@
--- `route::rules::all_met` meets its contract. Invariants: testing the rules from `next` on gives the same result as testing all, and so do the
--- literals from `literal` on for their rule. Assumes nothing.
+-- `route::rules::all_met` meets its contract. Invariants, for every plan that has these clauses: testing the rules from `next` on gives the same
+-- result as testing all, and so do the literals from `literal` on for their rule. Assumes nothing.
 use mathlib.Core.Path.{_≡_, sym, ap, _∙_}
 use Prim.Native.Nat.{ℕ, _/_, _%_, _<_}
 use native.Mathlib.Omega.{arith}
-use lib.ListN.{length, getD}
+use mathlib.Core.List.{List}
+use lib.ListN.{getD}
 use Rattle.plan.specs.Records.{records}
 use Rattle.plan.specs.Bounds.{fieldLimit, maxRecords}
 use Rattle.plan.specs.Plan.{literalAt}
-use Rattle.plan.specs.Reading.{IsRule, IsLiteral, nextRule, firstLiteral, nextLiteral, rulesFrom, literalsFrom}
+use Rattle.plan.specs.Reading.{IsRule, IsLiteral, nextRule, firstLiteral, nextLiteral, literalsFrom}
 use Rattle.plan.proofs.Reading.{records-more, rule-low, literal-low}
 use Rattle.route.specs.Permission.{holds, met}
-use Rattle.route.specs.Values.{namedPlaces, hasBelt, codeIn}
+use Rattle.route.specs.Values.{OfNamed, namedPlaces, hasBelt, codeIn, Ruled}
 use Rattle.route.specs.Inner.{isTrue}
 use Rattle.route.proofs.RulesCodes.{assigned, assigned-fits, codable-low, literal-codable, literal-true}
 use Rattle.route.proofs.RulesScan as ahead
@@ -18,42 +19,56 @@ use Rattle.route.proofs.RulesEntries.{first-entry, rule-parts, literal-
 use Rattle.route.proofs.rules.all_met.Statement.{statement}
 use Rattle.route.proofs.rules.all_met.Tie as tie
 
+-- a plan that has these clauses, and the belts of this mask
+abbrev Of : List ℕ → ℕ → Type 0
+Of clauses belts = (b : List ℕ) × Ruled b clauses × OfNamed b belts
+
 abbrev Inv-loop : tie.InvT-loop
-Inv-loop p clauses belts setting on next rule literal₀ literal = ahead.LiteralsAhead p (hasBelt p belts) setting literal₀ literal
+Inv-loop clauses belts setting on next rule literal₀ literal =
+    (w : Of clauses belts) → ahead.LiteralsAhead (w .0) (hasBelt (w .0) belts) setting literal₀ literal
 
 abbrev μ-loop : tie.MeasureT-loop
-μ-loop p clauses belts setting on next rule literal₀ literal = length (literalsFrom p literal)
+μ-loop clauses belts setting on next rule literal₀ literal = ahead.above literal
 
 abbrev Inv-rules : tie.InvT-rules
-Inv-rules p clauses belts setting on next₀ next = ahead.RulesAhead p (hasBelt p belts) setting next
+Inv-rules clauses belts setting on next₀ next = (w : Of clauses belts) → ahead.RulesAhead (w .0) (hasBelt (w .0) belts) setting next
 
 abbrev μ-rules : tie.MeasureT-rules
-μ-rules p clauses belts setting on next₀ next = length (rulesFrom p next)
+μ-rules clauses belts setting on next₀ next = ahead.above next
 
 mul-on : tie.Need-mul-on Inv-loop μ-loop Inv-rules μ-rules
 mul-on c = omega arith
 
 add-on : tie.Need-add-on Inv-loop μ-loop Inv-rules μ-rules
 add-on c =
-    let start = c .before .before in
-    omega (arith, assigned-fits (start .pre .0) (start .pre .2) (start .args .setting) (omega arith))
+    let start = c .before in
+    let w = start .pre in
+    omega (arith, assigned-fits (w .1 .accepted) (w .2) (start .args .setting) (omega arith))
 
 shared-slice-read-next : tie.Need-shared-slice-read-next Inv-loop μ-loop Inv-rules μ-rules
-shared-slice-read-next c = let start = c .before .before .before in omega (arith, records-more (start .pre .0), start .pre .1 .records-fit)
+shared-slice-read-next c =
+    let w = c .before .before .pre in
+    omega (arith, records-more (w .1 .accepted), w .1 .clauses .records-fit)
 
 rules-holds : tie.Need-rules-holds Inv-loop μ-loop Inv-rules μ-rules
 rules-holds c =
-    let start = c .before .before .before in
-    let on = hasBelt (start .args .p .now) (start .args .belts) in
-    ahead.rules-first (start .pre .0) on (start .args .setting) _ (first-entry (start .pre .0) (start .pre .1))
+    let a = c .before .before .args in
+    λ w. ahead.rules-first (w .1 .accepted) (hasBelt (w .0) (a .belts)) (a .setting) _ (first-entry (w .1 .accepted) (w .1 .clauses))
+
+-- where all was asked for, and a plan that has the clauses
+abbrev begun : tie.In-rules Inv-loop μ-loop Inv-rules μ-rules → tie.Start Inv-loop μ-loop Inv-rules μ-rules
+begun c = c .before .before .before .before
+
+abbrev OfTurn : tie.In-rules Inv-loop μ-loop Inv-rules μ-rules → Type 0
+OfTurn c = let a = begun c .args in Of (a .clauses .now) (a .belts)
 
 -- the rule of a turn
-rule-is : (c : tie.In-rules Inv-loop μ-loop Inv-rules μ-rules) → IsRule (c .before .before .before .before .before .args .p .now) (c .before .rules .next)
-rule-is c = c .before .rules .inv .0 (c .rules-test .taken)
+rule-is : (c : tie.In-rules Inv-loop μ-loop Inv-rules μ-rules) (w : OfTurn c) → IsRule (w .0) (c .before .rules .next)
+rule-is c w = c .before .rules .inv w .0 (c .rules-test .taken)
 
 rule-small : (c : tie.In-rules Inv-loop μ-loop Inv-rules μ-rules)
-    → (c .before .rules .next < records (c .before .before .before .before .before .args .p .now)) × (c .before .rules .next < maxRecords)
-rule-small c = let low = rule-low (c .before .before .before .before .before .pre .0) (c .before .rules .next) (rule-is c) in (low .1, low .2)
+    → (c .before .rules .next < records (begun c .pre .0)) × (c .before .rules .next < maxRecords)
+rule-small c = let w = begun c .pre in let low = rule-low (w .1 .accepted) (c .before .rules .next) (rule-is c w) in (low .1, low .2)
 
 cast-rule : tie.Need-cast-rule Inv-loop μ-loop Inv-rules μ-rules
 cast-rule c = omega (arith, rule-small c .1)
@@ -62,37 +77,37 @@ mul-rule : tie.Need-mul-rule Inv-loop μ-loop Inv-rules μ-rules
 mul-rule c = omega (arith, rule-small c .1)
 
 shared-slice-read-rule : tie.Need-shared-slice-read-rule Inv-loop μ-loop Inv-rules μ-rules
-shared-slice-read-rule c =
-    let turn = c .before in
-    omega (arith, rule-small turn .0, turn .before .before .before .before .before .pre .1 .records-fit)
+shared-slice-read-rule c = let turn = c .before in omega (arith, rule-small turn .0, begun turn .pre .1 .clauses .records-fit)
 
 -- the two parts of its entry
-parts : (c : tie.In-rules Inv-loop μ-loop Inv-rules μ-rules) →
-    let a = c .before .before .before .before .before .args in
+parts : (c : tie.In-rules Inv-loop μ-loop Inv-rules μ-rules) (w : OfTurn c) →
+    let cs = begun c .args .clauses .now in
     let r = c .before .rules .next in
-    (getD (a .clauses .now) r 0 % fieldLimit ≡ nextRule (a .p .now) r) × (getD (a .clauses .now) r 0 / fieldLimit ≡ firstLiteral (a .p .now) r)
-parts c =
-    let start = c .before .before .before .before .before in
-    rule-parts (start .pre .0) (start .pre .1) (c .before .rules .next) (rule-is c)
+    (getD cs r 0 % fieldLimit ≡ nextRule (w .0) r) × (getD cs r 0 / fieldLimit ≡ firstLiteral (w .0) r)
+parts c w = rule-parts (w .1 .accepted) (w .1 .clauses) (c .before .rules .next) (rule-is c w)
 
 loop-holds : tie.Need-loop-holds Inv-loop μ-loop Inv-rules μ-rules
 loop-holds c =
     let turn = c .before in
     let at = turn .before in
-    let start = at .before .before .before .before in
-    let on = hasBelt (start .args .p .now) (start .args .belts) in
-    ahead.literals-first (start .pre .0) on (start .args .setting) (at .rules .next) (at .rules .inv) (turn .rules-test .taken) _ (parts turn .1)
+    let a = begun turn .args in
+    λ w.
+    ahead.literals-first (w .1 .accepted) (hasBelt (w .0) (a .belts)) (a .setting) (at .rules .next) (at .rules .inv w) (turn .rules-test .taken) _
+    (parts turn w .1)
+
+-- the turn of a rule in which that of a literal is
+abbrev outer : tie.In-loop Inv-loop μ-loop Inv-rules μ-rules → tie.In-rules Inv-loop μ-loop Inv-rules μ-rules
+outer c = c .before .before .before
 
 -- the literal of a turn
-literal-is : (c : tie.In-loop Inv-loop μ-loop Inv-rules μ-rules)
-    → IsLiteral (c .before .before .before .before .before .before .before .before .args .p .now) (c .before .loop .literal)
-literal-is c = c .before .loop .inv .0 (c .loop-test .taken)
+literal-is : (c : tie.In-loop Inv-loop μ-loop Inv-rules μ-rules) (w : OfTurn (outer c)) → IsLiteral (w .0) (c .before .loop .literal)
+literal-is c w = c .before .loop .inv w .0 (c .loop-test .taken)
 
-literal-small : (c : tie.In-loop Inv-loop μ-loop Inv-rules μ-rules) →
-    let p = c .before .before .before .before .before .before .before .before .args .p .now in
-    (c .before .loop .literal < records p) × (c .before .loop .literal < maxRecords)
+literal-small : (c : tie.In-loop Inv-loop μ-loop Inv-rules μ-rules)
+    → (c .before .loop .literal < records (begun (outer c) .pre .0)) × (c .before .loop .literal < maxRecords)
 literal-small c =
-    let low = literal-low (c .before .before .before .before .before .before .before .before .pre .0) (c .before .loop .literal) (literal-is c) in
+    let w = begun (outer c) .pre in
+    let low = literal-low (w .1 .accepted) (c .before .loop .literal) (literal-is c w) in
     (low .1, low .2)
 
 cast-entry : tie.Need-cast-entry Inv-loop μ-loop Inv-rules μ-rules
@@ -104,94 +119,91 @@ mul-entry c = omega (arith, literal-small c .1)
 shared-slice-read-entry : tie.Need-shared-slice-read-entry Inv-loop μ-loop Inv-rules μ-rules
 shared-slice-read-entry c =
     let round = c .before in
-    omega (arith, literal-small round .0, round .before .before .before .before .before .before .before .before .pre .1 .records-fit)
+    omega (arith, literal-small round .0, begun (outer round) .pre .1 .clauses .records-fit)
 
 -- the two parts of its entry
-halves : (c : tie.In-loop Inv-loop μ-loop Inv-rules μ-rules) →
-    let a = c .before .before .before .before .before .before .before .before .args in
+halves : (c : tie.In-loop Inv-loop μ-loop Inv-rules μ-rules) (w : OfTurn (outer c)) →
+    let cs = begun (outer c) .args .clauses .now in
     let l = c .before .loop .literal in
-    (getD (a .clauses .now) l 0 % fieldLimit ≡ nextLiteral (a .p .now) l)
-    × (getD (a .clauses .now) l 0 / fieldLimit ≡ codeIn (namedPlaces (a .p .now)) (literalAt (a .p .now) l))
-halves c =
-    let start = c .before .before .before .before .before .before .before .before in
-    literal-parts (start .pre .0) (start .pre .1) (c .before .loop .literal) (literal-is c)
+    (getD cs l 0 % fieldLimit ≡ nextLiteral (w .0) l) × (getD cs l 0 / fieldLimit ≡ codeIn (namedPlaces (w .0)) (literalAt (w .0) l))
+halves c w = literal-parts (w .1 .accepted) (w .1 .clauses) (c .before .loop .literal) (literal-is c w)
 
 is-true-requires : tie.Need-is-true-requires Inv-loop μ-loop Inv-rules μ-rules
 is-true-requires c κs =
     let round = c .before in
-    let start = round .before .before .before .before .before .before .before .before in
-    let p = start .args .p .now in
+    let w = begun (outer round) .pre in
     let l = round .before .loop .literal in
-    omega (arith, halves round .1, codable-low (namedPlaces p) (literalAt p l) (literal-codable (start .pre .0) l (literal-is round)))
+    omega
+    (arith, halves round w .1, codable-low (namedPlaces (w .0)) (literalAt (w .0) l) (literal-codable (w .1 .accepted) l (literal-is round w)))
 
 -- whether it holds is what its code says
-said : (c : tie.After-is-true Inv-loop μ-loop Inv-rules μ-rules) →
-    let at = c .before .before .before in
-    let a = at .before .before .before .before .before .before .before .args in
-    holds (hasBelt (a .p .now) (a .belts)) (a .setting) (literalAt (a .p .now) (at .loop .literal)) ≡ c .is-true .result
-said c =
+said : (c : tie.After-is-true Inv-loop μ-loop Inv-rules μ-rules) (w : OfTurn (outer (c .before .before))) →
+    let a = begun (outer (c .before .before)) .args in
+    holds (hasBelt (w .0) (a .belts)) (a .setting) (literalAt (w .0) (c .before .before .before .loop .literal)) ≡ c .is-true .result
+said c w =
     let round = c .before .before in
-    let start = round .before .before .before .before .before .before .before .before in
-    let a = start .args in
-    sym (literal-true (start .pre .0) (start .pre .2) (a .setting) (round .before .loop .literal) (literal-is round))
-    ∙ ap (isTrue (assigned (a .belts) (a .setting))) (sym (halves round .1))
+    let a = begun (outer round) .args in
+    sym (literal-true (w .1 .accepted) (w .2) (a .setting) (round .before .loop .literal) (literal-is round w))
+    ∙ ap (isTrue (assigned (a .belts) (a .setting))) (sym (halves round w .1))
     ∙ sym (c .is-true .ensures)
 
 rules-less : tie.Need-rules-less Inv-loop μ-loop Inv-rules μ-rules
 rules-less c =
-    let turn = c .before .before .before .before .before .before in
-    let at = turn .before in
-    ahead.rule-shorter (at .before .before .before .before .pre .0) (at .rules .next) (rule-is turn) _ (parts turn .0)
+    let turn = outer (c .before .before .before) in
+    let w = begun turn .pre in
+    ahead.rule-rises (w .1 .accepted) (turn .before .rules .next) (rule-is turn w) _ (parts turn w .0)
 
 rules-again : tie.Need-rules-again Inv-loop μ-loop Inv-rules μ-rules
 rules-again c =
     let round = c .before .before .before in
     let inner = round .before in
-    let turn = inner .before .before in
+    let turn = outer round in
     let at = turn .before in
-    let start = at .before .before .before .before in
-    let p = start .args .p .now in
-    let on = hasBelt p (start .args .belts) in
-    let σ = start .args .setting in
-    let held = ahead.literals-held (start .pre .0) on σ _ (inner .loop .literal) (inner .loop .inv) (round .loop-test .taken) (said (c .before) ∙ c .if1 .taken) in
-    let same = ap (λ (l : ℕ). met on σ (literalsFrom p l)) (parts turn .1) in
-    ahead.rules-met (start .pre .0) on σ (at .rules .next) (at .rules .inv) (turn .rules-test .taken) _ (parts turn .0) (sym same ∙ held)
+    let a = begun turn .args in
+    let σ = a .setting in
+    λ w.
+    let ok = w .1 .accepted in
+    let on = hasBelt (w .0) (a .belts) in
+    let held = ahead.literals-held ok on σ _ (inner .loop .literal) (inner .loop .inv w) (round .loop-test .taken) (said (c .before) w ∙ c .if1 .taken) in
+    let same = ap (λ (l : ℕ). met on σ (literalsFrom (w .0) l)) (parts turn w .1) in
+    ahead.rules-met ok on σ (at .rules .next) (at .rules .inv w) (turn .rules-test .taken) _ (parts turn w .0) (sym same ∙ held)
 
 loop-less : tie.Need-loop-less Inv-loop μ-loop Inv-rules μ-rules
 loop-less c =
     let round = c .before .before .before in
-    let start = round .before .before .before .before .before .before .before .before in
-    ahead.literal-shorter (start .pre .0) (round .before .loop .literal) (literal-is round) _ (halves round .0)
+    let w = begun (outer round) .pre in
+    ahead.literal-rises (w .1 .accepted) (round .before .loop .literal) (literal-is round w) _ (halves round w .0)
 
 loop-again : tie.Need-loop-again Inv-loop μ-loop Inv-rules μ-rules
 loop-again c =
     let round = c .before .before .before in
     let inner = round .before in
-    let start = inner .before .before .before .before .before .before .before in
-    let on = hasBelt (start .args .p .now) (start .args .belts) in
-    let σ = start .args .setting in
-    ahead.literals-missed (start .pre .0) on σ _ (inner .loop .literal) (inner .loop .inv) (round .loop-test .taken) (said (c .before) ∙ c .if1 .left) _
-    (halves round .0)
+    let a = begun (outer round) .args in
+    λ w.
+    ahead.literals-missed (w .1 .accepted) (hasBelt (w .0) (a .belts)) (a .setting) _ (inner .loop .literal) (inner .loop .inv w) (round .loop-test .taken)
+    (said (c .before) w ∙ c .if1 .left) _ (halves round w .0)
 
 returns : tie.Need-returns Inv-loop μ-loop Inv-rules μ-rules
 returns c =
     let inner = c .before in
     let turn = inner .before .before in
     let at = turn .before in
-    let start = at .before .before .before .before in
-    let p = start .args .p .now in
-    let on = hasBelt p (start .args .belts) in
-    let σ = start .args .setting in
-    let missed = ahead.literals-done (start .pre .0) on σ _ (inner .loop .literal) (inner .loop .inv) (c .loop-test .left) in
-    let same = ap (λ (l : ℕ). met on σ (literalsFrom p l)) (parts turn .1) in
-    ahead.rules-unmet (start .pre .0) on σ (at .rules .next) (at .rules .inv) (turn .rules-test .taken) (sym same ∙ missed)
+    let a = begun turn .args in
+    let σ = a .setting in
+    λ b ruled named.
+    let w : Of (a .clauses .now) (a .belts) = (b, ruled, named) in
+    let ok = ruled .accepted in
+    let on = hasBelt b (a .belts) in
+    let missed = ahead.literals-done ok on σ _ (inner .loop .literal) (inner .loop .inv w) (c .loop-test .left) in
+    let same = ap (λ (l : ℕ). met on σ (literalsFrom b l)) (parts turn w .1) in
+    ahead.rules-unmet ok on σ (at .rules .next) (at .rules .inv w) (turn .rules-test .taken) (sym same ∙ missed)
 
 returns-2 : tie.Need-returns-2 Inv-loop μ-loop Inv-rules μ-rules
 returns-2 c =
     let at = c .before in
-    let start = at .before .before .before .before in
-    let on = hasBelt (start .args .p .now) (start .args .belts) in
-    ahead.rules-done (start .pre .0) on (start .args .setting) (at .rules .next) (at .rules .inv) (c .rules-test .left)
+    let a = at .before .before .before .args in
+    λ b ruled named.
+    ahead.rules-done (ruled .accepted) (hasBelt b (a .belts)) (a .setting) (at .rules .next) (at .rules .inv (b, ruled, named)) (c .rules-test .left)
 
 pub all-met-spec : {M : Type 1} → statement M
 all-met-spec =

@@ -5,19 +5,16 @@ use mathlib.Core.List.{List}
 use borrow.Author.Needs.{needs}
 use Rattle.plan.specs.Plan.{planOf}
 use Rattle.route.specs.Permission.{planTerms, lowest}
-use Rattle.route.specs.Values.{idsOf, OfNamed, gatheredIn, maskOf, hasBelt}
+use Rattle.route.specs.Values.{idsOf, OfNamed, gatheredIn, maskOf, hasBelt, Ruled}
 use Rattle.route.proofs.RulesNamed.{known-low, route-placeable, mask-named, lowest-mask}
 use Rattle.search.specs.Answers.{orZero}
 use Rattle.search.proofs.AnswerReply.{written-best}
 use Rattle.search.proofs.entry.write_best.Statement.{statement}
 use Rattle.search.proofs.entry.write_best.Tie as tie
 
-cost-requires : tie.Need-cost-requires
-cost-requires c κs = search needs
-
 -- where it was asked for
-abbrev begun : tie.After-cost → tie.Start
-begun c = c .before .before .before .before .before
+abbrev begun : tie.After-route → tie.Start
+begun c = c .before .before .before .before
 
 on-route-requires : tie.Need-on-route-requires
 on-route-requires c κs =
@@ -30,12 +27,25 @@ mask c =
     let start = begun (c .before) in
     c .on-route .ensures ∙ ap (λ (ps : List ℕ). gatheredIn ps 0 (idsOf (start .args .search .best))) (start .pre .1)
 
-lowest-setting-requires : tie.Need-lowest-setting-requires
-lowest-setting-requires c κs =
+-- so it is of named belts
+of-named : (c : tie.After-on-route) → OfNamed (begun (c .before) .args .p .now) (c .on-route .result)
+of-named c =
     let start = begun (c .before) in
     let best = start .args .search .best in
     let low = known-low (start .pre .0) best (start .pre .3 .known) in
-    (start .pre .0, start .pre .2, subst (OfNamed (start .args .p .now)) (sym (mask c)) (mask-named (start .pre .0) (idsOf best) low))
+    subst (OfNamed (start .args .p .now)) (sym (mask c)) (mask-named (start .pre .0) (idsOf best) low)
+
+modes-requires : tie.Need-modes-requires
+modes-requires c κs = begun (c .before) .pre .0
+
+lowest-setting-requires : tie.Need-lowest-setting-requires
+lowest-setting-requires c κs =
+    let gathered = c .before in
+    let start = begun (gathered .before) in
+    (start .args .p .now, record { accepted = start .pre .0; clauses = start .pre .2 }, of-named gathered, c .modes .ensures)
+
+cost-requires : tie.Need-cost-requires
+cost-requires c κs = search needs
 
 setting-of-requires : tie.Need-setting-of-requires
 setting-of-requires c κs = search needs
@@ -49,16 +59,19 @@ same-length c = search needs
 returns : tie.Need-returns
 returns c =
     let written = c .before .before in
-    let told = written .before .before .before in
-    let gathered = told .before in
+    let summed = written .before .before .before in
+    let told = summed .before in
+    let counted = told .before in
+    let gathered = counted .before in
     let start = begun (gathered .before) in
     let b = start .args .p .now in
     let search = start .args .search in
-    let setting = told .lowest-setting .ensures
+    let ruled : Ruled b (start .args .clauses .now) = record { accepted = start .pre .0; clauses = start .pre .2 } in
+    let setting = told .lowest-setting .ensures b ruled (of-named gathered) (counted .modes .ensures)
     ∙ ap (λ (m : ℕ). lowest (planTerms (planOf b)) (hasBelt b m)) (mask gathered)
     ∙ lowest-mask (start .pre .0) (search .best) (start .pre .3 .known) in
     written-best (start .pre .0) search (start .pre .3 .known) _ _ (written .write .result) (start .args .out .now) _
-    (gathered .before .cost .ensures .0)
+    (summed .cost .ensures .0)
     (written .before .before .setting-of .ensures ∙ ap orZero setting)
     (written .write .ensures .0)
     (written .write .ensures .1)
@@ -67,9 +80,10 @@ pub write-best-spec : {M : Type 1} → statement M
 write-best-spec =
     tie.close
     (tie.spec
-    cost-requires
     on-route-requires
+    modes-requires
     lowest-setting-requires
+    cost-requires
     setting-of-requires
     write-requires
     same-length

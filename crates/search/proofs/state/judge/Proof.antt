@@ -5,7 +5,7 @@ use Prim.Native.Nat.{ℕ}
 use borrow.Author.Needs.{needs}
 use Rattle.plan.specs.declared.named.Place.{Place}
 use Rattle.plan.specs.Plan.{planOf, named}
-use Rattle.route.specs.Values.{settingIn, subproblemIn, hasBelt}
+use Rattle.route.specs.Values.{settingIn, subproblemIn, hasBelt, Ruled}
 use Rattle.search.specs.declared.state.Judged.{Judged}
 use Rattle.search.specs.Branching.{pickOf}
 use Rattle.search.specs.Values.{pickedPlace}
@@ -23,13 +23,26 @@ place c =
     let b = c .args .p .now in
     pickedPlace (named (planOf b)) (pickOf (c .args .query .pick) (planOf b) (subproblemIn b (c .args .fixings)) (hasBelt b (c .args .mask)))
 
+modes-requires : tie.Need-modes-requires
+modes-requires c κs = search needs
+
+-- where it was asked for
+abbrev begun : tie.After-modes → tie.Start
+begun c = c .before .before .before
+
+ruled : (c : tie.After-modes) → Ruled (begun c .args .p .now) (begun c .args .clauses .now)
+ruled c = record { accepted = begun c .pre .0; clauses = begun c .pre .1 }
+
 lowest-setting-requires : tie.Need-lowest-setting-requires
-lowest-setting-requires c κs = search needs
+lowest-setting-requires c κs = (begun c .args .p .now, ruled c, begun c .pre .3, c .modes .ensures)
 
 -- it goes by the setting
 by-setting : (c : tie.After-lowest-setting) (o : Option ℕ) → settingIn (c .lowest-setting .result) ≡ o
-    → let start = c .before .before .before in wanted start ≡ testedAs (place start) o
-by-setting c o e = ap (testedAs (place (c .before .before .before))) (sym (c .lowest-setting .ensures) ∙ e)
+    → let start = begun (c .before) in wanted start ≡ testedAs (place start) o
+by-setting c o e =
+    let start = begun (c .before) in
+    let told = c .lowest-setting .ensures (start .args .p .now) (ruled (c .before)) (start .pre .3) (c .before .modes .ensures) in
+    ap (testedAs (place start)) (sym told ∙ e)
 
 enum-known-setting : tie.Need-enum-known-setting
 enum-known-setting c = search needs
@@ -51,7 +64,7 @@ returns c = sym (by-setting (c .before .before .before) _ (ap settingIn (c .befo
 
 -- no setting works, so it goes by the belt picked
 by-place : (c : tie.After-picked) (q : Place) → c .picked .result ≡ q
-    → branchAt q ≡ wanted (c .before .before .before .before .before .before)
+    → branchAt q ≡ wanted (begun (c .before .before .before .before))
 by-place c q e =
     ap branchAt (sym e ∙ c .picked .ensures)
     ∙ sym (by-setting (c .before .before .before) none (ap settingIn (c .before .enum-told .given .1)))
@@ -66,6 +79,7 @@ pub judge-spec : {M : Type 1} → statement M
 judge-spec =
     tie.close
     (tie.spec
+    modes-requires
     lowest-setting-requires
     enum-known-setting
     enum-told

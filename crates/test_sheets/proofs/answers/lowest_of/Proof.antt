@@ -3,10 +3,11 @@ use borrow.Author.Needs.{needs}
 use mathlib.Core.Path.{refl, sym, _∙_, ap, subst}
 use mathlib.Core.List.{List}
 use Prim.Native.Nat.{ℕ}
+use Rattle.plan.specs.Bounds.{maxRecords}
 use Rattle.plan.proofs.AdjacencyArcs.{records-few}
 use Rattle.route.specs.Values.{idsOf, OfNamed, gatheredIn}
 use Rattle.route.proofs.RulesNamed.{known-low, route-placeable, mask-named}
-use Rattle.route.proofs.RulesEntries.{clauses-lent}
+use Rattle.route.proofs.RulesEntries.{ruled-lent}
 use Rattle.test_sheets.proofs.answers.lowest_of.Statement.{statement}
 use Rattle.test_sheets.proofs.answers.lowest_of.Tie as tie
 
@@ -29,25 +30,31 @@ made c = c .before .before .before
 abbrev begun : tie.After-decode → tie.Start
 begun c = made c .before .before
 
-slice-aggregate-lowest-setting : tie.Need-slice-aggregate-lowest-setting
-slice-aggregate-lowest-setting c = search needs
-
 on-route-requires : tie.Need-on-route-requires
 on-route-requires c κs =
-    let decoded = c .before .before .before in
+    let decoded = c .before .before in
     let start = begun decoded in
     route-placeable (start .pre .0) (start .args .r) (start .pre .1) (made decoded .named-places .ensures)
 
+modes-requires : tie.Need-modes-requires
+modes-requires c κs = begun (c .before .before .before) .pre .0
+
+slice-aggregate-lowest-setting : tie.Need-slice-aggregate-lowest-setting
+slice-aggregate-lowest-setting c = search needs
+
 lowest-setting-requires : tie.Need-lowest-setting-requires
 lowest-setting-requires c κs =
-    let decoded = c .before .before .before .before in
+    let counted = c .before in
+    let gathered = counted .before in
+    let decoded = gathered .before .before .before in
     let start = begun decoded in
     let es = idsOf (start .args .r) in
-    let mask = c .on-route .ensures ∙ ap (λ (ps : List ℕ). gatheredIn ps 0 es) (made decoded .named-places .ensures) in
+    let mask = gathered .on-route .ensures ∙ ap (λ (ps : List ℕ). gatheredIn ps 0 es) (made decoded .named-places .ensures) in
     let low = known-low (start .pre .0) (start .args .r) (start .pre .1) in (
-      start .pre .0,
-      clauses-lent 2048 (records-few (start .pre .0) .0) (decoded .decode .ensures),
+      start .args .p .now,
+      ruled-lent (start .pre .0) maxRecords (records-few (start .pre .0) .0) (decoded .decode .ensures),
       subst (OfNamed (start .args .p .now)) (sym mask) (mask-named (start .pre .0) es low),
+      counted .modes .ensures,
     )
 
 returns : tie.Need-returns
@@ -56,4 +63,4 @@ returns c = search needs
 pub lowest-of-spec : {M : Type 1} → statement M
 lowest-of-spec =
     tie.close
-    (tie.spec named-places-requires slice-aggregate-decode decode-requires slice-aggregate-lowest-setting on-route-requires lowest-setting-requires returns)
+    (tie.spec named-places-requires slice-aggregate-decode decode-requires on-route-requires modes-requires slice-aggregate-lowest-setting lowest-setting-requires returns)
