@@ -9,7 +9,7 @@ use plan::read::RuleId;
 use route::masks;
 use route::relax::Fixings;
 ghost use mathlib.Core.Path.{_≡_};
-ghost use mathlib.Core.List.{head?};
+ghost use mathlib.Core.List.{List, head?};
 ghost use Prim.Native.Nat.{ℕ, _≤_, _<_};
 ghost use lib.ListN.{length, getD};
 ghost use Rattle.plan.specs.Bounds.{maxNamed};
@@ -153,13 +153,15 @@ fn lowest_on(fixings: Fixings, count: usize, mask: u64) -> Place
 }
 
 // The place of the belt picked, of a subproblem and its relaxed route; Place::Unnamed where no named belt is unfixed. `mask` has the named belts of
-// the route: nothing else of it matters.
-pub fn picked(p: &[u8], counts: Counts, pick: u64, fixings: Fixings, mask: u64) -> Place
-    requires { ⌜ Accepted (now p)
-        × (counts ≡ countsOf (now p)) ⌝ }
-    ensures { λ v. ⌜ v
-        ≡ pickedPlace (named (planOf (now (p .entry))))
-        (pickOf pick (planOf (now (p .entry))) (subproblemIn (now (p .entry)) fixings) (hasBelt (now (p .entry)) mask)) ⌝ }
+// the route: nothing else of it matters. Nor does anything of the plan but its counts: the belt is picked for any plan that has them.
+pub fn picked(counts: Counts, pick: u64, fixings: Fixings, mask: u64) -> Place
+    requires { ⌜ ((b : List ℕ)
+        × Accepted b
+        × (counts ≡ countsOf b)) ⌝ }
+    ensures { λ v. ⌜ ((b : List ℕ)
+        → Accepted b
+        → counts ≡ countsOf b
+        → v ≡ pickedPlace (named (planOf b)) (pickOf pick (planOf b) (subproblemIn b fixings) (hasBelt b mask))) ⌝ }
 {
     if pick == 0 {
         return lowest(fixings, counts.named);

@@ -124,7 +124,7 @@ fn judge(
     match setting {
         Lowest::Works(lowest) => Judged::Best,
         Lowest::Nothing => {
-            let place = pick::picked(p, counts, query.pick, fixings, mask);
+            let place = pick::picked(counts, query.pick, fixings, mask);
             match place {
                 Place::At(k) => Judged::Branch(k),
                 Place::Unnamed => Judged::Drop,

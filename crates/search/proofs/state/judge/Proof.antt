@@ -51,7 +51,7 @@ enum-told : tie.Need-enum-told
 enum-told c = search needs
 
 picked-requires : tie.Need-picked-requires
-picked-requires c κs = search needs
+picked-requires c κs = let start = begun (c .before .before .before) in (start .args .p .now, start .pre .0, start .pre .2)
 
 enum-known-place : tie.Need-enum-known-place
 enum-known-place c = search needs
@@ -66,7 +66,8 @@ returns c = sym (by-setting (c .before .before .before) _ (ap settingIn (c .befo
 by-place : (c : tie.After-picked) (q : Place) → c .picked .result ≡ q
     → branchAt q ≡ wanted (begun (c .before .before .before .before))
 by-place c q e =
-    ap branchAt (sym e ∙ c .picked .ensures)
+    let start = begun (c .before .before .before .before) in
+    ap branchAt (sym e ∙ c .picked .ensures (start .args .p .now) (start .pre .0) (start .pre .2))
     ∙ sym (by-setting (c .before .before .before) none (ap settingIn (c .before .enum-told .given .1)))
 
 returns-2 : tie.Need-returns-2
