@@ -21,3 +21,10 @@ pub mod LineNumbers
 pub mod Claims
 pub mod Reading
 pub mod AdjacencyArcs
+pub mod WordsParts
+pub mod WordsLists
+pub mod WordsRows
+pub mod WordsNamed
+pub mod WordsFilled
+pub mod WordsPlaces
+pub mod WordsTabled

@@ -15,18 +15,29 @@
 --   note t marks e        the marks with belt e marked, where t says so
 --   noted b marks ls      the marks after the belts that the records ls name have been marked
 --   notes b               those of the whole plan, in an array of maxRecords places
+--   wordsTo n es ws       the array of n words while it is filled: the named belts es and the rows ws are in it
+--   numbersTo p u es k    the array of numbers while it is filled: the rows up to junction u have their starts and marks, the named belts es are in it,
+--                         and k is how many there are, once it is known
+--   putWords t word first end named ws
+--                         the words ws with one put in: that of a named belt (t) at place named, or of another into the row from place first on and
+--                         before place end; putEnd: where that row ends then
+--   putNumbers t u k named ns
+--                         the numbers ns with the tail u and the place k of the named belt that is put at place named
 --
 -- Assumes nothing.
 use mathlib.Core.Path.{_≡_}
-use Prim.Native.Nat.{ℕ, zero, suc}
+use Prim.Native.Nat.{ℕ, zero, suc, _+_, _-_}
 use mathlib.Core.Bool.{Bool, true, false, _&&_}
-use mathlib.Core.List.{List, [], _∷_}
-use lib.ListN.{getD, set, replicate}
-use lib.Dec.{eqb}
-use Rattle.plan.specs.Lists.{any, joined, upto}
-use Rattle.plan.specs.Bounds.{maxRecords}
-use Rattle.plan.specs.Records.{field, kind, junctions, records, Link, linkTo}
+use mathlib.Core.List.{List, [], _∷_, _++_, map}
+use lib.ListN.{length, getD, set, replicate}
+use lib.Seq.{slice}
+use lib.Dec.{eqb, ltb}
+use Rattle.plan.specs.Lists.{any, count, joined, upto}
+use Rattle.plan.specs.Bounds.{maxRecords, maxNamed, junctionPlaces}
+use Rattle.plan.specs.Records.{field, kind, junctions, records, Link, linkTo, placed}
+use Rattle.plan.specs.Plan.{Belt, Plan, named}
 use Rattle.plan.specs.Refusals.{badLink, broken1, broken2, broken3, broken4, broken5, broken6}
+use Rattle.plan.specs.Words.{wordOf, putWord, rowsTo, namedTo, padded, tailsFrom, tailPlacesFrom, rowNumbersEnd, numbersEnd}
 
 -- no line is broken up to line 2, 4 or 6
 abbrev pub Passed2 : List ℕ → Type 0
@@ -71,3 +82,40 @@ noted b marks (l ∷ ls) = noted b (note (namesBelt b l) marks (field b l 4)) ls
 
 unfoldable pub notes : List ℕ → List ℕ
 notes b = noted b (replicate maxRecords 0) (upto (suc (junctions b)) (records b))
+
+-- ---- words
+
+abbrev pub wordsTo : ℕ → List Belt → List ℕ → List ℕ
+wordsTo n es ws = padded maxNamed (map wordOf es) ++ padded (n - maxNamed) ws
+
+abbrev pub startOf : Plan → ℕ → ℕ
+startOf p u = maxNamed + length (rowsTo p u)
+
+abbrev pub markOf : Plan → ℕ → ℕ
+markOf p u = length (namedTo p u)
+
+abbrev pub tailOf : Belt → ℕ
+tailOf e = e .leaves - 1
+
+abbrev pub tailPlaceOf : Plan → Belt → ℕ
+tailPlaceOf p e = count (λ (n : ℕ). ltb n (e .index)) (named p)
+
+abbrev pub numbersTo : Plan → ℕ → List Belt → ℕ → List ℕ
+numbersTo p u es k =
+    padded junctionPlaces (map (startOf p) (upto 0 (suc u)))
+    ++ (padded junctionPlaces (map (markOf p) (upto 0 (suc u)))
+    ++ (padded maxNamed (map tailOf es)
+    ++ (padded maxNamed (map (tailPlaceOf p) es)
+    ++ (k ∷ replicate (numbersEnd - rowNumbersEnd) 0))))
+
+abbrev pub putWords : Bool → ℕ → ℕ → ℕ → ℕ → List ℕ → List ℕ
+putWords true word first end named ws = set ws named word
+putWords false word first end named ws = placed ws first (putWord word (slice first end ws))
+
+abbrev pub putEnd : Bool → ℕ → ℕ → ℕ → List ℕ → ℕ
+putEnd true word first end ws = end
+putEnd false word first end ws = first + length (putWord word (slice first end ws))
+
+abbrev pub putNumbers : Bool → ℕ → ℕ → ℕ → List ℕ → List ℕ
+putNumbers true u k named ns = set (set ns (tailsFrom + named) u) (tailPlacesFrom + named) k
+putNumbers false u k named ns = ns

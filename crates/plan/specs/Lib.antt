@@ -8,5 +8,7 @@ pub mod Limits
 pub mod Claims
 pub mod Reading
 pub mod Adjacency
+pub mod Words
+pub mod Tables
 pub mod Inner
 pub mod Examples

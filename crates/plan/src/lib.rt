@@ -11,7 +11,8 @@
 //   notes    line 7, the marks of the named belts
 //   read     readers of an accepted plan
 //   named    its named belts, and their places
-//   adjacency   its belts side by side, by the junction that they leave
+//   adjacency   its adjacency array: its belts by the junction that they leave
+//   words    its belts as words, by the junction that they leave
 pub mod adjacency;
 mod belts;
 pub mod bounds;
@@ -24,3 +25,4 @@ pub mod read;
 pub mod record;
 pub mod refusal;
 mod table;
+pub mod words;
