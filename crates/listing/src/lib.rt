@@ -9,23 +9,32 @@ use output::Gathered;
 use output::Room;
 use output::put;
 use output::put_number;
+use plan::bounds::MAX_NAMED;
+use plan::bounds::MAX_RECORDS;
 use plan::bounds::MAX_SHEET_BYTES;
 use plan::bounds::MAX_STEPS;
 use plan::check::Verdict;
 use plan::read;
 use plan::read::BeltId;
+use plan::words::NUMBERS;
 use route::path::Route;
 use route::path::Trip;
 use route::sheet;
 use route::sheet::Sheet;
 use search::entry;
 use search::entry::Answer;
+use search::prepare;
 use search::query::Query;
 ghost use mathlib.Core.Path.{_≡_};
-ghost use Prim.Native.Nat.{_≤_};
+ghost use mathlib.Core.Bool.{false};
+ghost use mathlib.Core.List.{List};
+ghost use Prim.Native.Nat.{ℕ, _≤_};
 ghost use Rattle.plan.specs.Bounds.{maxSteps};
+ghost use Rattle.plan.specs.Plan.{planOf};
 ghost use Rattle.plan.specs.Reading.{Accepted};
 ghost use Rattle.plan.specs.Refusals.{refusal, numberOf};
+ghost use Rattle.route.specs.Routes.{wrongEnds};
+ghost use Rattle.search.specs.Values.{Prepared};
 ghost use Rattle.listing.specs.Lines.{blank, readSheet, sheetAt, lineOf};
 
 // Gathers the belts of a route, each behind a space.
@@ -175,42 +184,98 @@ pub fn print_query(trip: Trip, answer: Answer, out: &[u8]) {
     output::finish(&room, gathered);
 }
 
-// The line from s to t: pick 0, order 0, budget 1,000,000.
-fn put_pair(room: &mut Room, gathered: Gathered, p: &[u8], s: u64, t: u64) -> Gathered {
+// The line from s to t of a prepared plan (search::prepare): pick 0, order 0, budget 1,000,000.
+fn put_pair(
+    room: &mut Room,
+    gathered: Gathered,
+    words: &[u64],
+    numbers: &[u16; NUMBERS],
+    places: &[u8; MAX_RECORDS],
+    clauses: &[u32],
+    trip: Trip,
+) -> Gathered
+    requires { ⌜ ((b : List ℕ)
+        × Prepared b (now words) (now numbers) (now places) (now clauses)
+        × (wrongEnds (planOf b) (trip .s) (trip .t) ≡ false)) ⌝ }
+{
     let query = Query {
-        trip: Trip { s: s, t: t },
+        trip: trip,
         pick: 0,
         order: 0,
         budget: 1000000,
     };
     let mut out = [0u8; MAX_SHEET_BYTES];
-    let answer = entry::search(p, query, &mut out);
-    put_query(room, gathered, query.trip, answer, &out)
+    let answer = entry::find(words, numbers, places, clauses, query, &mut out);
+    put_query(room, gathered, trip, answer, &out)
 }
 
-// The lines from s to each later junction.
-fn put_from(room: &mut Room, gathered: Gathered, p: &[u8], s: u64, last: u64) -> Gathered {
+// The lines from s to each later junction, of which the last is `last`.
+fn put_from(
+    room: &mut Room,
+    gathered: Gathered,
+    words: &[u64],
+    numbers: &[u16; NUMBERS],
+    places: &[u8; MAX_RECORDS],
+    clauses: &[u32],
+    s: u64,
+    last: u64,
+) -> Gathered
+    requires { ⌜ ((b : List ℕ)
+        × Prepared b (now words) (now numbers) (now places) (now clauses)
+        × (last ≡ planOf b .junctions))
+        × (1 ≤ s) ⌝ }
+{
     let mut now = gathered;
     let mut t = s;
     while t < last {
         t += 1;
-        now = put_pair(room, now, p, s, t);
+        now = put_pair(
+            room,
+            now,
+            words,
+            numbers,
+            places,
+            clauses,
+            Trip { s: s, t: t },
+        );
     }
     now
 }
 
-// The lines of an accepted plan.
-fn put_lines(room: &mut Room, gathered: Gathered, p: &[u8]) -> Gathered
-    requires { ⌜ Accepted (now p) ⌝ }
+// The lines of a prepared plan with so many junctions.
+fn put_all(
+    room: &mut Room,
+    gathered: Gathered,
+    words: &[u64],
+    numbers: &[u16; NUMBERS],
+    places: &[u8; MAX_RECORDS],
+    clauses: &[u32],
+    last: u64,
+) -> Gathered
+    requires { ⌜ ((b : List ℕ)
+        × Prepared b (now words) (now numbers) (now places) (now clauses)
+        × (last ≡ planOf b .junctions)) ⌝ }
 {
-    let last = read::junctions(p) as u64;
     let mut now = gathered;
     let mut s = 1;
     while s < last {
-        now = put_from(room, now, p, s, last);
+        now = put_from(room, now, words, numbers, places, clauses, s, last);
         s += 1;
     }
     now
+}
+
+// The lines of an accepted plan, which is prepared once.
+fn put_lines(room: &mut Room, gathered: Gathered, p: &[u8]) -> Gathered
+    requires { ⌜ Accepted (now p) ⌝ }
+{
+    let mut words = [0u64; MAX_NAMED + MAX_RECORDS];
+    let mut numbers = [0u16; NUMBERS];
+    let mut places = [0u8; MAX_RECORDS];
+    let mut clauses = [0u32; MAX_RECORDS];
+    prepare::prepare(p, &mut words, &mut numbers, &mut places, &mut clauses);
+    let last = read::junctions(p) as u64;
+    put_all(room, gathered, &words, &numbers, &places, &clauses, last)
 }
 
 // Gathers the listing of a plan that the check has given this number.

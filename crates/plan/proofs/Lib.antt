@@ -1,6 +1,6 @@
--- Laws, each file after those that it rests on. The layers above go by these: Reading, NamedBelts, NamedPlaces, AdjacencyArcs and
--- LineNumbers, about plans; RecordWriting, about records; LineFirst, about lists of refusal lines; Lists, ListCounts and ListRising, about any
--- lists. The others are behind them; the claims are proved in Claims. docs/NAMING.md says what the names begin with.
+-- Laws, each file after those that it rests on. The layers above go by these: Reading, NamedBelts, NamedPlaces, WordsParts, WordsPlaces, WordsTabled and
+-- LineNumbers, about plans; RecordWriting, about records; LineFirst, about lists of refusal lines; Lists, ListCounts, ListRising and WordsLists, about
+-- any lists. The others are behind them; the claims are proved in Claims. docs/NAMING.md says what the names begin with.
 pub mod Lists
 pub mod ListCounts
 pub mod ListRising
@@ -20,7 +20,6 @@ pub mod LineLimits
 pub mod LineNumbers
 pub mod Claims
 pub mod Reading
-pub mod AdjacencyArcs
 pub mod WordsParts
 pub mod WordsLists
 pub mod WordsRows

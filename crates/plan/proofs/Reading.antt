@@ -13,7 +13,8 @@
 --                                                                                the indices of their records
 -- Counts:
 --   plan-sizes              1 to 256 junctions, at most 10 modes
---   records-more            more records than junctions
+--   records-few, records-more
+--                           at most maxRecords records, of 12 bytes each, and more of them than junctions
 --   rules-few               at most 2,048 rules
 -- Belts of the plan:
 --   belt-in, belt-of        the belts of the plan are the belt records
@@ -58,7 +59,7 @@ use Rattle.plan.specs.Limits.{Limits}
 use Rattle.plan.specs.Reading.{Accepted, Bytes, IsBelt, IsRule, IsLiteral, isRuleAt, isLiteralAt}
 use Rattle.plan.specs.Reading.{firstBelt, nextBelt, firstRule, nextRule, firstLiteral, nextLiteral, beltChain, ruleChain, literalChain, beltsFrom, rulesFrom, literalsFrom}
 use Rattle.plan.proofs.Lists.{both, and-is, untrue, alike, in-keep, keep-in, in-map, map-in, in-mem, mem-in}
-use Rattle.plan.proofs.LineForms.{Item, belts, rules, literals}
+use Rattle.plan.proofs.LineForms.{Item, belts, rules, literals, few, sized}
 use Rattle.plan.proofs.ChainLinks.{Linked}
 use Rattle.plan.proofs.ListRising.{Rises}
 use Rattle.plan.proofs.LinePassed.{linked}
@@ -124,6 +125,9 @@ module _ {b : List ℕ} (ok : Accepted b) where
   pub plan-sizes : (1 ≤ planOf b .junctions) × (planOf b .junctions ≤ maxJunctions) × (planOf b .modes ≤ maxModes)
   unfolding planOf
   plan-sizes = let top = limits .header in (top .some-junctions, top .few-junctions, top .few-modes)
+
+  pub records-few : (records b ≤ maxRecords) × (length b ≡ 12 * records b)
+  records-few = let one = accepted-passed b (ok .unrefused) .0 .0 .0 .0 in (few b one, sized b one .whole)
 
   pub records-more : planOf b .junctions < records b
   unfolding planOf

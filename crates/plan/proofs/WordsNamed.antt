@@ -8,7 +8,6 @@
 --   order-next         how many there are, one junction further
 --   named-order        at most maxNamed named belts leave the junctions up to u
 --   named-all          up to the last junction they are all
---   none-leave         past the last junction no belt leaves
 --
 -- Assumes nothing.
 use mathlib.Core.Path.{_≡_, refl, sym, _∙_, ap}
@@ -18,14 +17,14 @@ use mathlib.Core.List.{List, [], _∷_, _++_, List·Memᴰ, List·Memᴰ·head, 
 use native.Mathlib.Omega.{arith}
 use lib.ListN.{length, getD, length-append, length-map}
 use lib.Dec.{eqb, ltb, leb}
-use borrow.Author.Tests.{eqb-true, eqb-false, ne-eqb, leb-true, leb-false, le-leb, lt-leb}
+use borrow.Author.Tests.{eqb-true, eqb-false, leb-true, leb-false, le-leb, lt-leb}
 use Rattle.plan.specs.Bounds.{maxNamed, maxRecords}
 use Rattle.plan.specs.Lists.{any, keepBy, keep, countBy, count, mem, upto}
 use Rattle.plan.specs.Records.{kind, junctions, records}
 use Rattle.plan.specs.Plan.{Belt, Plan, planOf, beltAt, beltRecords, indicesOf, inRule, leaving, named, placeBy, placeOf, placeCode, placesOf}
 use Rattle.plan.specs.Reading.{Accepted}
 use Rattle.plan.specs.Words.{inOrder, isNamed, namedTo}
-use Rattle.plan.proofs.Lists.{never, alike, getD-first, in-keep, keep-in, keep-none, keep-map, in-map, in-mem, mem-in, length-iota, count-append}
+use Rattle.plan.proofs.Lists.{never, alike, getD-first, in-keep, keep-in, keep-map, in-map, in-mem, mem-in, length-iota, count-append}
 use Rattle.plan.proofs.ListCounts.{length-keep, count-few}
 use Rattle.plan.proofs.LineForms.{few}
 use Rattle.plan.proofs.LineAccepted.{accepted-passed}
@@ -168,10 +167,6 @@ module _ {b : List ℕ} (ok : Accepted b) where
 
   pub order-next : (u : ℕ) → length (inOrder (planOf b) (suc u)) ≡ length (inOrder (planOf b) u) + length (leaving (planOf b) (suc u))
   order-next u = length-append (inOrder (planOf b) u) (leaving (planOf b) (suc u))
-
-  pub none-leave : (u : ℕ) → planOf b .junctions ≤ u → leaving (planOf b) (suc u) ≡ []
-  none-leave u h =
-      keep-none (λ (e : Belt). eqb (e .leaves) (suc u)) (planOf b .belts) (λ e k. ne-eqb (e .leaves) (suc u) (λ q. omega (arith, belt-ends ok e k)))
 
   -- ---- named ones
 

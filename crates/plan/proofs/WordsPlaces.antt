@@ -1,18 +1,24 @@
 -- Where things stand in the arrays of a plan (specs/Words.antt): what each part of the array of numbers has, and which belt each place of the words is.
 --
---   member-at, at-member, pick, belt-place, rises-once
---                      a list by its places: what stands at a place is in the list, what is in it stands at a place; in a rising list at one
---   start-at, start-past, mark-at, mark-past
---                      the starts and marks of the junctions of the plan, and 0 behind them
---   tail-at, tail-past, tail-place-at, tail-place-past, named-at
---                      the tails and places of the named belts, and 0 behind them; how many there are
+--   lt-or-le           of two numbers one is less, or the other is not above it
+--   at-member, member-at
+--                      what stands at a place of a list is in it, and what is in it stands at a place
+--   pick               one belt for all that is made of the belts of a list
+--   rises-once         what is in a rising list stands there once
+--   named-in, word-in, rows-in
+--                      the named belts in order are belts of the plan, and the words in rows are those of its nameless belts
+--   namedOf p u        the named belts that leave junction u + 1; leaving-rises: their indices rise
+--   start-next, mark-next
+--                      starts and marks, one junction further
+--   marks-rise         marks rise; mark-of: each place of a named belt is that of a junction
 --   row-at             a place of a junction's row has the word that stands there in its row
---   belts-at           a place of a junction's named belts is that of one of them
---   order-in, named-in, rows-in
---                      belts in order are belts of the plan, and words in rows are those of belts of the plan
---   leaving-rises      the named belts that leave a junction have rising indices
---   marks-rise, mark-of
---                      marks rise, and each place of a named belt is one of a junction
+--   length-numbers     the array of numbers has all its parts; length-rows: how long these are
+--   start-at, start-past, mark-at, mark-past
+--                      it has the starts and marks of the junctions of the plan, and 0 behind them
+--   tails-are, places-are, named-at
+--                      the tails and places of the named belts, and how many there are
+--   Placed             what the arrays have of a named belt
+--   belts-at           each place of a junction's named belts has one of them; belt-at: each of them has a place
 --
 -- Assumes nothing.
 use mathlib.Core.Path.{_≡_, refl, sym, _∙_, ap, subst}
@@ -22,24 +28,22 @@ use Prim.Native.Nat.{ℕ, zero, suc, _+_, _-_, _≤_, _<_}
 use mathlib.Core.List.{List, [], _∷_, _++_, map, List·Memᴰ, List·Memᴰ·head, List·Memᴰ·tail, List·Memᴰ·not-nil, List·Memᴰ·append-cases, append-nil, append-assoc, map-append}
 use native.Mathlib.Omega.{arith}
 use native.Mathlib.Nat.{eq-or-lt-of-le}
-use native.Mathlib.Numerals.{add-one}
 use lib.ListN.{length, getD, length-append, length-map, List·getD-append}
 use lib.Dec.{eqb, ltb}
 use borrow.Author.Tests.{ltb-true, ltb-false}
 use Rattle.plan.specs.Bounds.{maxJunctions, maxNamed, junctionPlaces}
 use Rattle.plan.specs.Lists.{keepBy, keep, upto}
-use Rattle.plan.specs.Records.{records}
 use Rattle.plan.specs.Plan.{Belt, Plan, planOf, indicesOf, leaving, named}
 use Rattle.plan.specs.Reading.{Accepted}
-use Rattle.plan.specs.Words.{wordOf, inOrder, isNamed, isNameless, rowBy, rowOf, rowsTo, namedTo, padded, wordsIn, startsOf, marksOf, tailsOf, tailPlacesOf, rowNumbers, tailsFrom, tailPlacesFrom, namedFrom, startAt, markAt, tailAt, tailPlaceAt, namedAt}
-use Rattle.plan.specs.Inner.{wordsTo, startOf, markOf, tailOf, tailPlaceOf}
+use Rattle.plan.specs.Words.{wordOf, inOrder, isNamed, isNameless, rowOf, rowsTo, namedTo, padded, wordsIn, startsOf, marksOf, tailsOf, tailPlacesOf, rowNumbers, tailsFrom, tailPlacesFrom, namedFrom, rowNumbersEnd, startAt, markAt, tailAt, tailPlaceAt, namedAt}
+use Rattle.plan.specs.Inner.{startOf, markOf, tailOf, tailPlaceOf}
 use Rattle.plan.proofs.Lists.{keep-in, in-map, map-in, getD-first}
-use Rattle.plan.proofs.ListRising.{Rises, none, more}
+use Rattle.plan.proofs.ListRising.{Rises, more}
 use Rattle.plan.proofs.Reading.{plan-sizes, leaving-in, belts-rise}
 use Rattle.plan.proofs.WordsLists.{getD-behind, padded-at, padded-past}
 use Rattle.plan.proofs.WordsRows.{row-in, rises-at}
-use Rattle.plan.proofs.WordsNamed.{keep-append, order-fit, named-order}
-use Rattle.plan.proofs.WordsFilled.{words-at, words-first, words-all, rows-fit, length-starts, length-marks, length-tails, length-upto}
+use Rattle.plan.proofs.WordsNamed.{keep-append, named-order}
+use Rattle.plan.proofs.WordsFilled.{words-at, words-first, words-all, length-starts, length-marks, length-tails, length-upto}
 
 -- ---- lists by their places
 
@@ -65,7 +69,7 @@ pick [] i h = absurd (omega arith)
 pick (e ∷ es) zero h = (e, List·Memᴰ·head refl, λ f. refl)
 pick (e ∷ es) (suc i) h = let (d, m, q) = pick es i (omega arith) in (d, List·Memᴰ·tail m, q)
 
-pub belt-place : {e : Belt} {es : List Belt} → List·Memᴰ e es → (i : ℕ) × (i < length es) × ((f : Belt → ℕ) → getD (map f es) i 0 ≡ f e)
+belt-place : {e : Belt} {es : List Belt} → List·Memᴰ e es → (i : ℕ) × (i < length es) × ((f : Belt → ℕ) → getD (map f es) i 0 ≡ f e)
 belt-place (List·Memᴰ·head q) = (0, omega arith, λ f. ap f (sym q))
 belt-place (List·Memᴰ·tail m) = let (i, h, q) = belt-place m in (suc i, omega arith, q)
 
@@ -90,7 +94,7 @@ grows {A} f g step u (suc v) h = go (eq-or-lt-of-le h) (grows f g step u v)
 
 -- ---- belts in order
 
-pub order-in : (p : Plan) (u : ℕ) (e : Belt) → List·Memᴰ e (inOrder p u) → List·Memᴰ e (p .belts)
+order-in : (p : Plan) (u : ℕ) (e : Belt) → List·Memᴰ e (inOrder p u) → List·Memᴰ e (p .belts)
 order-in p zero e m = absurd (List·Memᴰ·not-nil m)
 order-in p (suc u) e m = go (List·Memᴰ·append-cases (inOrder p u) m) (order-in p u e)
   where
@@ -203,9 +207,9 @@ module _ {b : List ℕ} (ok : Accepted b) (n : ℕ) where
       let here = map f (namedOf p u) in
       let (rest, q) = grows (namedTo p) (namedOf p) (named-step p) (suc u) last h in
       let split : map f (namedTo p last) ≡ (before ++ here) ++ map f rest =
-          ap (map f) (q ∙ ap (λ (es : List Belt). es ++ rest) (named-step p u))
-          ∙ map-append f (namedTo p u ++ namedOf p u) rest
-          ∙ ap (λ (l : List ℕ). l ++ map f rest) (map-append f (namedTo p u) (namedOf p u)) in
+      ap (map f) (q ∙ ap (λ (es : List Belt). es ++ rest) (named-step p u))
+      ∙ map-append f (namedTo p u ++ namedOf p u) rest
+      ∙ ap (λ (l : List ℕ). l ++ map f rest) (map-append f (namedTo p u) (namedOf p u)) in
       let size = length-map (namedTo p u) f in
       let size' = length-map (namedOf p u) f in (
         omega (arith, ap length q, length-append (namedTo p (suc u)) rest, mark-next p u),
@@ -214,7 +218,7 @@ module _ {b : List ℕ} (ok : Accepted b) (n : ℕ) where
             ∙ getD-behind before here (markOf p u) size j 0,
       )
 
-  pub word-at : (k : ℕ) → k < length (namedTo (planOf b) (planOf b .junctions))
+  word-at : (k : ℕ) → k < length (namedTo (planOf b) (planOf b .junctions))
       → getD (wordsIn n (planOf b)) k 0 ≡ getD (map wordOf (namedTo (planOf b) (planOf b .junctions))) k 0
   word-at k h =
       let p = planOf b in
@@ -240,6 +244,22 @@ module _ {b : List ℕ} (ok : Accepted b) (numbers more : List ℕ) (are : numbe
       omega (
         arith,
         ap length parts,
+        length-append (startsOf p) (marksOf p ++ (tailsOf p ++ (tailPlacesOf p ++ e))),
+        length-append (marksOf p) (tailsOf p ++ (tailPlacesOf p ++ e)),
+        length-append (tailsOf p) (tailPlacesOf p ++ e),
+        length-append (tailPlacesOf p) e,
+        length-starts p (plan-sizes ok .1),
+        length-marks p (plan-sizes ok .1),
+        size-c,
+      )
+
+  pub length-rows : length (rowNumbers (planOf b)) ≡ rowNumbersEnd
+  unfolding rowNumbers
+  length-rows =
+      let p = planOf b in
+      let e : List ℕ = length (named p) ∷ [] in
+      omega (
+        arith,
         length-append (startsOf p) (marksOf p ++ (tailsOf p ++ (tailPlacesOf p ++ e))),
         length-append (marksOf p) (tailsOf p ++ (tailPlacesOf p ++ e)),
         length-append (tailsOf p) (tailPlacesOf p ++ e),

@@ -11,18 +11,17 @@ use mathlib.Core.Path.{_≡_, refl, sym, _∙_, ap, subst}
 use mathlib.Core.Logic.{_⊎_, inl, inr}
 use mathlib.Core.Bool.{Bool, true, false, not}
 use Prim.Native.Nat.{ℕ, zero, suc, _+_, _-_, _≤_, _<_}
-use mathlib.Core.List.{List, [], _∷_, _++_, map, List·Memᴰ, List·Memᴰ·head, List·Memᴰ·tail, List·Memᴰ·not-nil, List·Memᴰ·append-cases}
+use mathlib.Core.List.{List, [], _++_, map, List·Memᴰ, List·Memᴰ·head, List·Memᴰ·tail, List·Memᴰ·not-nil, List·Memᴰ·append-cases}
 use native.Mathlib.Omega.{arith}
 use native.Mathlib.Numerals.{add-one}
 use lib.ListN.{length, getD, replicate, length-map, List·getD-eq-default}
-use lib.Dec.{ltb}
 use Rattle.plan.specs.declared.named.Place.the-variants.{At}
 use Rattle.plan.specs.Bounds.{maxJunctions, maxNamed}
-use Rattle.plan.specs.Lists.{keep, count}
+use Rattle.plan.specs.Lists.{keep}
 use Rattle.plan.specs.Records.{records}
-use Rattle.plan.specs.Plan.{Belt, Plan, planOf, indicesOf, leaving, named, placeOf}
+use Rattle.plan.specs.Plan.{Belt, planOf, leaving, named}
 use Rattle.plan.specs.Reading.{Accepted, Bytes}
-use Rattle.plan.specs.Words.{wordOf, wordHead, far, isNamed, isNameless, rowOf, rowsTo, namedTo, padded, wordsIn, rowNumbers, startAt, markAt, tailAt, tailPlaceAt, namedAt}
+use Rattle.plan.specs.Words.{wordOf, wordHead, far, isNamed, isNameless, rowOf, rowsTo, namedTo, padded, wordsIn, rowNumbers, startAt, markAt, namedAt}
 use Rattle.plan.specs.Tables.{Below, Rising, Sound, Word, Covered, Arc, Tabled}
 use Rattle.plan.specs.Inner.{wordsTo, startOf, markOf, tailOf, tailPlaceOf}
 use Rattle.plan.proofs.Lists.{in-keep, map-in, mem-in}
@@ -31,11 +30,10 @@ use Rattle.plan.proofs.NamedBelts.{named-rises}
 use Rattle.plan.proofs.NamedPlaces.{at-place, place-in}
 use Rattle.plan.proofs.Reading.{plan-sizes, in-leaving, belt-ends, named-few}
 use Rattle.plan.proofs.WordsParts.{belt-word, belt-parts, same-word}
-use Rattle.plan.proofs.WordsLists.{padded-at, padded-past}
-use Rattle.plan.proofs.WordsRows.{Covers, row-covers, row-rises, heads-rise}
+use Rattle.plan.proofs.WordsRows.{row-covers, row-rises, heads-rise}
 use Rattle.plan.proofs.WordsNamed.{order-fit, named-order, named-all}
 use Rattle.plan.proofs.WordsFilled.{length-words, words-all, rows-fit}
-use Rattle.plan.proofs.WordsPlaces.{lt-or-le, at-member, member-at, pick, rises-once, named-in, word-in, rows-in, namedOf, mark-next, start-next, marks-rise, mark-of, leaving-rises, row-at, length-numbers, named-at, start-at, start-past, mark-at, mark-past, tails-are, places-are, Placed, belts-at, belt-at}
+use Rattle.plan.proofs.WordsPlaces.{lt-or-le, at-member, member-at, rises-once, named-in, word-in, rows-in, namedOf, mark-next, start-next, marks-rise, mark-of, leaving-rises, row-at, length-numbers, named-at, start-at, start-past, mark-at, mark-past, tails-are, places-are, Placed, belts-at, belt-at}
 
 -- ---- words
 

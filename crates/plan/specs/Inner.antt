@@ -18,11 +18,14 @@
 --   wordsTo n es ws       the array of n words while it is filled: the named belts es and the rows ws are in it
 --   numbersTo p u es k    the array of numbers while it is filled: the rows up to junction u have their starts and marks, the named belts es are in it,
 --                         and k is how many there are, once it is known
---   putWords t word first end named ws
---                         the words ws with one put in: that of a named belt (t) at place named, or of another into the row from place first on and
---                         before place end; putEnd: where that row ends then
---   putNumbers t u k named ns
---                         the numbers ns with the tail u and the place k of the named belt that is put at place named
+--   startOf p u, markOf p u
+--                         where the row of place u starts, and how many named belts leave places before u
+--   tailOf e, tailPlaceOf p e
+--                         the place that belt e leaves, and its place among the named belts
+--   putWords p e first end k ws
+--                         the words ws with that of belt e put in: at place k, if it is named, else into the row from place first on and before place
+--                         end; putEnd: where that row ends then
+--   putNumbers p e u k ns the numbers ns with those of belt e, which leaves place u: where it is named, its tail and its place stand at place k of theirs
 --
 -- Assumes nothing.
 use mathlib.Core.Path.{_≡_}
@@ -37,7 +40,7 @@ use Rattle.plan.specs.Bounds.{maxRecords, maxNamed, junctionPlaces}
 use Rattle.plan.specs.Records.{field, kind, junctions, records, Link, linkTo, placed}
 use Rattle.plan.specs.Plan.{Belt, Plan, named}
 use Rattle.plan.specs.Refusals.{badLink, broken1, broken2, broken3, broken4, broken5, broken6}
-use Rattle.plan.specs.Words.{wordOf, putWord, rowsTo, namedTo, padded, tailsFrom, tailPlacesFrom, rowNumbersEnd, numbersEnd}
+use Rattle.plan.specs.Words.{wordOf, isNamed, putWord, rowsTo, namedTo, padded, tailsFrom, tailPlacesFrom, rowNumbersEnd, numbersEnd}
 
 -- no line is broken up to line 2, 4 or 6
 abbrev pub Passed2 : List ℕ → Type 0
@@ -108,14 +111,23 @@ numbersTo p u es k =
     ++ (padded maxNamed (map (tailPlaceOf p) es)
     ++ (k ∷ replicate (numbersEnd - rowNumbersEnd) 0))))
 
-abbrev pub putWords : Bool → ℕ → ℕ → ℕ → ℕ → List ℕ → List ℕ
-putWords true word first end named ws = set ws named word
-putWords false word first end named ws = placed ws first (putWord word (slice first end ws))
+abbrev pub putWordsBy : Bool → ℕ → ℕ → ℕ → ℕ → List ℕ → List ℕ
+putWordsBy true word first end k ws = set ws k word
+putWordsBy false word first end k ws = placed ws first (putWord word (slice first end ws))
 
-abbrev pub putEnd : Bool → ℕ → ℕ → ℕ → List ℕ → ℕ
-putEnd true word first end ws = end
-putEnd false word first end ws = first + length (putWord word (slice first end ws))
+abbrev pub putWords : Plan → Belt → ℕ → ℕ → ℕ → List ℕ → List ℕ
+putWords p e first end k ws = putWordsBy (isNamed p e) (wordOf e) first end k ws
 
-abbrev pub putNumbers : Bool → ℕ → ℕ → ℕ → List ℕ → List ℕ
-putNumbers true u k named ns = set (set ns (tailsFrom + named) u) (tailPlacesFrom + named) k
-putNumbers false u k named ns = ns
+abbrev pub putEndBy : Bool → ℕ → ℕ → ℕ → List ℕ → ℕ
+putEndBy true word first end ws = end
+putEndBy false word first end ws = first + length (putWord word (slice first end ws))
+
+abbrev pub putEnd : Plan → Belt → ℕ → ℕ → List ℕ → ℕ
+putEnd p e first end ws = putEndBy (isNamed p e) (wordOf e) first end ws
+
+abbrev pub putNumbersBy : Bool → ℕ → ℕ → ℕ → List ℕ → List ℕ
+putNumbersBy true u place k ns = set (set ns (tailsFrom + k) u) (tailPlacesFrom + k) place
+putNumbersBy false u place k ns = ns
+
+abbrev pub putNumbers : Plan → Belt → ℕ → ℕ → List ℕ → List ℕ
+putNumbers p e u k ns = putNumbersBy (isNamed p e) u (tailPlaceOf p e) k ns

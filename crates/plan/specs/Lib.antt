@@ -7,7 +7,6 @@ pub mod Refusals
 pub mod Limits
 pub mod Claims
 pub mod Reading
-pub mod Adjacency
 pub mod Words
 pub mod Tables
 pub mod Inner

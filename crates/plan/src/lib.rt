@@ -11,9 +11,7 @@
 //   notes    line 7, the marks of the named belts
 //   read     readers of an accepted plan
 //   named    its named belts, and their places
-//   adjacency   its adjacency array: its belts by the junction that they leave
 //   words    its belts as words, by the junction that they leave
-pub mod adjacency;
 mod belts;
 pub mod bounds;
 mod chain;

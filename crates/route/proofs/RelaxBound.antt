@@ -2,8 +2,6 @@
 --
 --   at-most-none   there is none where the way on costs more, or is not there
 --   at-most-some   else it is the way on
---   at-most-found, at-most-lost
---                  by the cost: where it is that of a way on, this is the route; where it is that of none, there is none
 --   walked-size    storing its belts in an array leaves the array's length as it was
 --
 -- Assumes nothing.
@@ -35,28 +33,6 @@ at-most-none k (some r) l = ap (by r) (lt-leb (cost r) k l)
 pub at-most-some : (k : ℕ) (o : Option (List Belt)) → wayCost o ≤ k → atMost k o ≡ o
 at-most-some k none l = refl
 at-most-some k (some r) l = ap (by r) (le-leb (cost r) k l)
-
-pub at-most-found : (k : ℕ) (o : Option (List Belt)) → (wayCost (atMost k o) ≡ costLimit → ⊥) → (atMost k o ≡ o) × (wayCost (atMost k o) ≤ k)
-at-most-found k none h = absurd (h refl)
-at-most-found k (some r) h = go (test (leb (cost r) k))
-  where
-    go : (leb (cost r) k ≡ true) ⊎ (leb (cost r) k ≡ false) → (atMost k (some r) ≡ some r) × (wayCost (atMost k (some r)) ≤ k)
-    go (inl l) =
-        let low = leb-true (cost r) k l in
-        let same = at-most-some k (some r) low in
-        (same, subst (λ (o : Option (List Belt)). wayCost o ≤ k) (sym same) low)
-    go (inr l) = absurd (h (ap wayCost (at-most-none k (some r) (leb-false (cost r) k l))))
-
-pub at-most-lost : (k : ℕ) (o : Option (List Belt)) → k < costLimit → wayCost (atMost k o) ≡ costLimit → atMost k o ≡ none
-at-most-lost k none h c = refl
-at-most-lost k (some r) h c = go (test (leb (cost r) k))
-  where
-    go : (leb (cost r) k ≡ true) ⊎ (leb (cost r) k ≡ false) → atMost k (some r) ≡ none
-    go (inl l) =
-        let low = leb-true (cost r) k l in
-        let same : cost r ≡ costLimit = sym (ap wayCost (at-most-some k (some r) low)) ∙ c in
-        absurd (omega arith)
-    go (inr l) = at-most-none k (some r) (leb-false (cost r) k l)
 
 pub walked-size : (o : Option (List Belt)) (room : List ℕ) → length (walkedOf o room) ≡ length room
 walked-size none room = refl

@@ -11,4 +11,6 @@ pub mod Values
 pub mod Claims
 pub mod Laws
 pub mod Inner
+pub mod Ways
+pub mod Walks
 pub mod Examples

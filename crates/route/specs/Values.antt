@@ -17,17 +17,18 @@
 --   OfNamed b m      the mask m has no other places than those of the named belts of the plan b
 --   subproblemIn b f the subproblem of the plan b that the masks f stand for
 --   namedPlaces b    the places of the named belts of the plan b, as the code looks them up
---   numbersOf ns     the numbers of the named belts ns, as an array of maxNamed, the rest of it 0
 --   gatheredIn places m es
 --                    the mask m with the places of the belts es, as the array of places has them
 --   Placeable places r
 --                    the belts of a Route can be looked up in the array of places, and have bits in a mask
 --   maskOf b es      the named belts of the plan b among es, as a mask
 --   hasBelt b m e    the mask m has belt e of the plan b
---   exitsOf b        for each number from 0 to maxJunctions the named belts of the plan b that leave the junction of this number, as a mask
 --   atMost c o       the route o, if there is one and it costs at most c
 --   unbounded        a bound that drops no route, and that none costs as much as
 --   summaryAs b o    the answer that stands for the cost of a route of the plan b, how many belts it has and the named ones, or for none (noSummary)
+--   Graph b words numbers places
+--                    the plan b is accepted, and the arrays are its own: its words and their numbers, which are sound and have its belts, and the places of
+--                    its named belts
 --   walkedOf o array
 --                    the array with the indices of the belts of the route o, if there is one, from the first place on
 --   codeIn places l  the code of literal l: twice its variable, and 1 more where it is wanted (codeBy). The variable of a belt is its place among
@@ -56,11 +57,13 @@ use Rattle.plan.specs.declared.read.Literal.{Literal}
 use Rattle.plan.specs.declared.read.Literal.the-variants.{OfBelt, OfMode}
 use Rattle.plan.specs.declared.named.Place.{Place}
 use Rattle.plan.specs.declared.named.Place.the-variants.{At, Unnamed}
-use Rattle.plan.specs.Bounds.{fieldLimit, junctionPlaces, maxNamed, maxRecords, maxSteps}
+use Rattle.plan.specs.Bounds.{fieldLimit, maxNamed, maxRecords, maxSteps}
 use Rattle.plan.specs.Lists.{keep, upto}
 use Rattle.plan.specs.Records.{records}
-use Rattle.plan.specs.Plan.{Belt, planOf, literalAt, indicesOf, leaving, named, beltId, listed, placeOf, placesOf, placeIn}
-use Rattle.plan.specs.Reading.{Accepted, IsBelt, isRuleAt, isLiteralAt, firstRule, nextRule, firstLiteral, nextLiteral}
+use Rattle.plan.specs.Plan.{Belt, planOf, literalAt, indicesOf, named, beltId, placeOf, placesOf, placeIn}
+use Rattle.plan.specs.Words.{wayLimit}
+use Rattle.plan.specs.Tables.{Sound, Tabled}
+use Rattle.plan.specs.Reading.{Accepted, Bytes, IsBelt, isRuleAt, isLiteralAt, firstRule, nextRule, firstLiteral, nextLiteral}
 use Rattle.route.specs.declared.path.Route.{Route}
 use Rattle.route.specs.declared.sheet.Sheet.{Sheet}
 use Rattle.route.specs.declared.modes.Lowest.{Lowest}
@@ -68,7 +71,7 @@ use Rattle.route.specs.declared.modes.Lowest.the-variants.{Works, Nothin
 use Rattle.route.specs.declared.path.Trip.{Trip}
 use Rattle.route.specs.declared.relax.Fixings.{Fixings}
 use Rattle.route.specs.declared.relax.Summary.{Summary}
-use Rattle.route.specs.Routes.{cost, costLimit, first, beltsByIndex}
+use Rattle.route.specs.Routes.{cost, first, beltsByIndex}
 use Rattle.route.specs.Subproblems.{Subproblem}
 use Rattle.route.specs.Sheets.{sheetOf, beltsOn, costOn, settingOn}
 use Rattle.route.specs.Refusals.{Case}
@@ -134,9 +137,6 @@ subproblemIn b f = record { required = fixedIn (named (planOf b)) (f .required);
 abbrev pub namedPlaces : List ℕ → List ℕ
 namedPlaces b = placesOf (named (planOf b))
 
-abbrev pub numbersOf : List ℕ → List ℕ
-numbersOf ns = map (λ (e : BeltId). e .0) (listed ns)
-
 abbrev pub gatheredIn : List ℕ → ℕ → List ℕ → ℕ
 gatheredIn places m [] = m
 gatheredIn places m (e ∷ es) = gatheredIn places (withPlace m (placeIn places e)) es
@@ -151,22 +151,26 @@ maskOf b es = gatheredIn (namedPlaces b) 0 es
 abbrev pub hasBelt : List ℕ → ℕ → ℕ → Bool
 hasBelt b m e = inMask m (placeOf (named (planOf b)) e)
 
-unfoldable pub exitsOf : List ℕ → List ℕ
-exitsOf b = map (λ (u : ℕ). maskOf b (indicesOf (leaving (planOf b) u))) (upto 0 junctionPlaces)
-
 abbrev pub atMost : ℕ → Option (List Belt) → Option (List Belt)
 atMost c none = none
 atMost c (some r) = elim (leb (cost r) c) [ true ↦ some r | false ↦ none ]
 
 abbrev pub unbounded : ℕ
-unbounded = costLimit - 1
+unbounded = wayLimit - 1
 
 abbrev pub noSummary : Summary
-noSummary = record { cost = costLimit; count = 0; named = 0 }
+noSummary = record { cost = wayLimit; count = 0; named = 0 }
 
 abbrev pub summaryAs : List ℕ → Option (List Belt) → Summary
 summaryAs b none = noSummary
 summaryAs b (some r) = record { cost = cost r; count = length r; named = maskOf b (indicesOf r) }
+
+pub record Graph (b words numbers places : List ℕ) : Type 0 where
+  pub accepted : Accepted b
+  pub bytes : Bytes b
+  pub sound : Sound words numbers
+  pub tabled : Tabled (planOf b) words numbers
+  pub placed : places ≡ namedPlaces b
 
 abbrev pub walkedOf : Option (List Belt) → List ℕ → List ℕ
 walkedOf none array = array

@@ -5,6 +5,7 @@
 //   modes   the lowest setting that meets every rule
 //   masks   sets of named belts
 //   clauses the chains of rules and literals as numbers, decoded once
+//   ways    the backward pass over words: from each junction the cost of the way on, and its first belt
 //   relax   the relaxed route of a subproblem
 //   sheet   route sheets, written and read
 //   check   the check of a sheet: lines 1 to 8 and 11 to 14 of the refusal table
@@ -16,3 +17,4 @@ pub mod path;
 pub mod relax;
 mod rules;
 pub mod sheet;
+pub mod ways;

@@ -68,7 +68,7 @@ module _ (b : List ℕ) (q : Query) (v : Stepped) (same : turnIn b v ≡ run (pr
   abbrev terms : Terms
   terms = termsOf (planOf b) (q .trip)
 
-  found-held : v .ending ≡ Found → isHeld (v .search .bound) ≡ true
+  pub found-held : v .ending ≡ Found → isHeld (v .search .bound) ≡ true
   found-held e =
       let (r, h) = run-found (problemIn b q) (q .budget) (sym (ap (λ (x : Turn). x .ending) same) ∙ ap endingIn e) in
       held b (isHeld (v .search .bound)) (v .search .best) r (ap (λ (x : Turn). x .state .best) same ∙ h)

@@ -252,11 +252,11 @@ pub record Tallied (b : List ℕ) (r : ℕ) (xs : List ℕ) : Type 0 where
   pub whole : (k : ℕ) → k < length (named (planOf b)) → getD xs k 0 + inRules b k (rulesFrom b r) ≡ inRules b k (planOf b .rules)
   pub spare : (k : ℕ) → length (named (planOf b)) ≤ k → getD xs k 0 ≡ 0
 
-pub counts-at : (b : List ℕ) (k : ℕ) → k < length (named (planOf b)) → getD (countsOf b .rules) k 0 ≡ ruleCount (planOf b) (getD (named (planOf b)) k 0)
+pub counts-at : (b : List ℕ) (k : ℕ) → k < length (named (planOf b)) → getD (countsOf (planOf b)) k 0 ≡ ruleCount (planOf b) (getD (named (planOf b)) k 0)
 counts-at b k l =
     let ns = named (planOf b) in
     let counts = map (ruleCount (planOf b)) ns in
-    List·getD-append counts (replicate (maxNamed - length ns) 0) 0 k (omega (arith, length-map ns (ruleCount (planOf b))))
+    List·getD-append counts (replicate (maxNamed - length counts) 0) 0 k (omega (arith, length-map ns (ruleCount (planOf b))))
     ∙ mapped-at (ruleCount (planOf b)) ns k l
 
 -- a fresh array is 0 at each place, and past its end
@@ -268,14 +268,26 @@ fresh-at n k = go (test (ltb k n))
     go (inr t) = List·getD-eq-default {A = ℕ} (replicate n 0) 0 (omega (arith, ltb-false k n t, length-replicate {A = ℕ} n 0))
 
 -- where no belt is, the count is 0
-counts-past : (b : List ℕ) (k : ℕ) → length (named (planOf b)) ≤ k → getD (countsOf b .rules) k 0 ≡ 0
+counts-past : (b : List ℕ) (k : ℕ) → length (named (planOf b)) ≤ k → getD (countsOf (planOf b)) k 0 ≡ 0
 counts-past b k l =
     let ns = named (planOf b) in
     let counts = map (ruleCount (planOf b)) ns in
-    let fresh : List ℕ = replicate (maxNamed - length ns) 0 in
+    let fresh : List ℕ = replicate (maxNamed - length counts) 0 in
     let past = k - length counts in
     let e : k ≡ length counts + past = omega (arith, length-map ns (ruleCount (planOf b))) in
-    ap (λ (j : ℕ). getD (counts ++ fresh) j 0) e ∙ getD-append-add counts fresh past 0 ∙ fresh-at (maxNamed - length ns) past
+    ap (λ (j : ℕ). getD (counts ++ fresh) j 0) e ∙ getD-append-add counts fresh past 0 ∙ fresh-at (maxNamed - length counts) past
+
+pub length-counts : {b : List ℕ} → Accepted b → length (countsOf (planOf b)) ≡ maxNamed
+length-counts {b} ok =
+    let ns = named (planOf b) in
+    let counts = map (ruleCount (planOf b)) ns in
+    omega (
+      arith,
+      length-append counts (replicate (maxNamed - length counts) 0),
+      length-map ns (ruleCount (planOf b)),
+      length-replicate {A = ℕ} (maxNamed - length counts) 0,
+      named-few ok,
+    )
 
 module _ {b : List ℕ} (ok : Accepted b) where
   abbrev ns : List ℕ
@@ -296,24 +308,17 @@ module _ {b : List ℕ} (ok : Accepted b) where
       go (inl t) = omega (arith, h .whole k (ltb-true k (length ns) t), count-few (inRule (getD ns k 0)) (planOf b .rules), rules-few ok)
       go (inr t) = omega (arith, h .spare k (ltb-false k (length ns) t))
 
-  pub tallied-end : {r : ℕ} {xs : List ℕ} → Tallied b r xs → r ≡ 0 → xs ≡ countsOf b .rules
+  pub tallied-end : {r : ℕ} {xs : List ℕ} → Tallied b r xs → r ≡ 0 → xs ≡ countsOf (planOf b)
   tallied-end {r} {xs} h e =
-      ext-getD 0 xs (countsOf b .rules) (h .size ∙ sym full) (λ k l. go k (test (ltb k (length ns))))
+      ext-getD 0 xs (countsOf (planOf b)) (h .size ∙ sym full) (λ k l. go k (test (ltb k (length ns))))
     where
-      full : length (countsOf b .rules) ≡ maxNamed
-      full =
-          omega (
-            arith,
-            length-append (map (ruleCount (planOf b)) ns) (replicate (maxNamed - length ns) 0),
-            length-map ns (ruleCount (planOf b)),
-            length-replicate {A = ℕ} (maxNamed - length ns) 0,
-            named-few ok,
-          )
+      full : length (countsOf (planOf b)) ≡ maxNamed
+      full = length-counts ok
 
       none : (k : ℕ) → inRules b k (rulesFrom b r) ≡ 0
       none k = ap (λ (i : ℕ). inRules b k (rulesFrom b i)) e ∙ ap (inRules b k) (rules-end ok)
 
-      go : (k : ℕ) → (ltb k (length ns) ≡ true) ⊎ (ltb k (length ns) ≡ false) → getD xs k 0 ≡ getD (countsOf b .rules) k 0
+      go : (k : ℕ) → (ltb k (length ns) ≡ true) ⊎ (ltb k (length ns) ≡ false) → getD xs k 0 ≡ getD (countsOf (planOf b)) k 0
       go k (inl t) = let l = ltb-true k (length ns) t in omega (arith, h .whole k l, none k, counts-at b k l)
       go k (inr t) = let l = ltb-false k (length ns) t in h .spare k l ∙ sym (counts-past b k l)
 

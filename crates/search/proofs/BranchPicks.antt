@@ -33,6 +33,7 @@ use borrow.Author.Tests.{lt-ltb, le-ltb}
 use Rattle.plan.specs.declared.named.Place.the-variants.{At, Unnamed}
 use Rattle.plan.specs.Lists.{keep, mem, iota, upto}
 use Rattle.plan.specs.Plan.{Plan, planOf, named}
+use Rattle.plan.specs.Reading.{Accepted}
 use Rattle.plan.proofs.Lists.{both, keep-in, map-iota, upto-in, keep-cong, keep-map}
 use Rattle.plan.proofs.ListCounts.{keep-first, keep-rest, keep-done}
 use Rattle.plan.proofs.ListRising.{Rises}
@@ -45,9 +46,10 @@ use Rattle.route.proofs.MaskBits.{or-set, without-set, lowest-none, lowest-set}
 use Rattle.route.proofs.RulesLowest.{find-cong}
 use Rattle.route.proofs.MaskFixings.{fixed-mem}
 use Rattle.search.specs.Branching.{isFixed, unfixed, ruleCount, higher, highest, pickOf}
-use Rattle.search.specs.Values.{countsOf, pickedPlace}
-use Rattle.search.specs.Inner.{unfixedAt, unfixedPlaces, atPlace, countAt}
-use Rattle.search.proofs.BranchCounts.{stands, counts-at}
+use Rattle.search.specs.Values.{numbersOf, countAt, pickedPlace}
+use Rattle.search.specs.Inner.{unfixedAt, unfixedPlaces, atPlace}
+use Rattle.search.proofs.BranchCounts.{stands}
+use Rattle.search.proofs.PrepareNumbers.{numbers-count}
 
 -- ---- the first place that is kept and passes
 
@@ -169,7 +171,7 @@ module _ {ns : List ℕ} where
       go true l rest = one k l
       go false l rest = rest
 
-  matched-busiest : (p : Plan) (xs : List ℕ) (ks : List ℕ) → Inside ns ks → ((k : ℕ) → k < length ns → getD xs k 0 ≡ ruleCount p (belt ns k))
+  matched-busiest : (p : Plan) (xs : List ℕ) (ks : List ℕ) → Inside ns ks → ((k : ℕ) → k < length ns → countAt xs k ≡ ruleCount p (belt ns k))
       → Matched ns (highest (ruleCount p) (map (belt ns) ks)) (highest (countAt xs) ks)
   matched-busiest p xs [] h same = neither
   matched-busiest p xs (k ∷ ks) h same = go (h k (List·Memᴰ·head refl)) (matched-busiest p xs ks (λ j m. h j (List·Memᴰ·tail m)) same)
@@ -232,14 +234,14 @@ module _ (b : List ℕ) (f : Fixings) where
     picks-lowest zero h = matched-place rises matched-lowest
     picks-lowest (suc k) h = absurd (omega arith)
 
-    pub picks-busiest : (k : ℕ) → k ≡ 1 → atPlace (highest (countAt (countsOf b .rules)) free) ≡ pickedPlace ns (pickOf k (planOf b) (subproblemIn b f) on)
-    picks-busiest zero h = absurd (omega arith)
-    picks-busiest (suc zero) h =
-        let xs = countsOf b .rules in
+    pub picks-busiest : Accepted b → (k : ℕ) → k ≡ 1 → atPlace (highest (countAt (numbersOf (planOf b))) free) ≡ pickedPlace ns (pickOf k (planOf b) (subproblemIn b f) on)
+    picks-busiest ok zero h = absurd (omega arith)
+    picks-busiest ok (suc zero) h =
+        let xs = numbersOf (planOf b) in
         matched-place rises
         (subst (λ (es : List ℕ). Matched ns (highest (ruleCount (planOf b)) es) (highest (countAt xs) free)) (sym free-belts)
-        (matched-busiest (planOf b) xs free (free-inside ns f) (counts-at b)))
-    picks-busiest (suc (suc k)) h = absurd (omega arith)
+        (matched-busiest (planOf b) xs free (free-inside ns f) (numbers-count ok)))
+    picks-busiest ok (suc (suc k)) h = absurd (omega arith)
 
     -- `has` tells by places what `on` tells of the named belts
     pub picks-on : (k : ℕ) → (k ≡ 0 → ⊥) → (k ≡ 1 → ⊥) → (has : ℕ → Bool) → ((j : ℕ) → j < length ns → on (getD ns j 0) ≡ has j)

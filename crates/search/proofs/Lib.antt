@@ -6,6 +6,7 @@ pub mod RunWeights
 pub mod RunCoverage
 pub mod RunDepth
 pub mod BranchCounts
+pub mod PrepareNumbers
 pub mod BranchPicks
 pub mod SearchState
 pub mod SearchStep

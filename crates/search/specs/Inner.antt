@@ -5,7 +5,6 @@
 --   withRule xs n m       the counts xs, one more for each of the first n places that the mask m has
 --   unfixedAt f k         the masks f do not fix the belt at place k; unfixedPlaces f n: the first n places where that is so
 --   atPlace o             a place that was looked for, as the code has it
---   countAt xs k          the count that the array xs has for place k
 -- Steps:
 --   endedAs t             how a search ends in which none waits, where t says whether a best is held
 --   childAt f q t         the masks f with the place q required, too, or else forbidden
@@ -17,6 +16,8 @@
 --   judgedIn b q f on     what becomes of the masks f, where there is a relaxed route that improves on the best, and the test `on` says which belts
 --                         are on it; judgedBy t j: it is dropped where t says that there is none
 -- Answers:
+--   Listed b numbers places clauses
+--                         the plan b is accepted, and the arrays have its number of modes, the places of its named belts, and its clauses
 --   bestOf b v            what a search that found its best route comes to
 --
 -- Assumes nothing.
@@ -34,11 +35,12 @@ use Rattle.plan.specs.declared.read.Literal.the-variants.{OfBelt, OfMode}
 use Rattle.plan.specs.Bounds.{maxNamed}
 use Rattle.plan.specs.Lists.{countBy, keep, upto}
 use Rattle.plan.specs.Plan.{Belt, planOf, named}
+use Rattle.plan.specs.Reading.{Bytes}
 use Rattle.route.specs.declared.path.Route.{Route}
 use Rattle.route.specs.declared.relax.Fixings.{Fixings}
 use Rattle.route.specs.Routes.{cost}
 use Rattle.route.specs.Permission.{planTerms, termsOf, lowest}
-use Rattle.route.specs.Values.{packed, routeIn, routeOf, inMask, withPlace, subproblemIn}
+use Rattle.route.specs.Values.{packed, routeIn, routeOf, inMask, withPlace, subproblemIn, namedPlaces, Ruled}
 use Rattle.search.specs.declared.query.Query.{Query}
 use Rattle.search.specs.declared.state.Search.{Search}
 use Rattle.search.specs.declared.state.Ending.{Ending}
@@ -48,7 +50,7 @@ use Rattle.search.specs.declared.state.Judged.the-variants.{Drop, Best, 
 use Rattle.search.specs.Branching.{pickOf}
 use Rattle.search.specs.Search.{improves}
 use Rattle.search.specs.Answers.{Outcome, bestRoute}
-use Rattle.search.specs.Values.{pickedPlace, bestIn}
+use Rattle.search.specs.Values.{modesAt, pickedPlace, bestIn}
 
 -- ---- picks
 
@@ -69,9 +71,6 @@ unfixedPlaces f n = keep (unfixedAt f) (upto 0 n)
 abbrev pub atPlace : Option ℕ → Place
 atPlace none = Unnamed
 atPlace (some k) = At k
-
-abbrev pub countAt : List ℕ → ℕ → ℕ
-countAt xs k = getD xs k 0
 
 -- ---- steps
 
@@ -114,6 +113,12 @@ judgedBy true j = j
 judgedBy false j = Drop
 
 -- ---- answers
+
+pub record Listed (b numbers places clauses : List ℕ) : Type 0 where
+  pub ruled : Ruled b clauses
+  pub modes : modesAt numbers ≡ planOf b .modes
+  pub placed : places ≡ namedPlaces b
+  pub bytes : Bytes b
 
 abbrev pub bestOf : List ℕ → Search → Outcome
 bestOf b v = bestRoute (planTerms (planOf b)) (v .opened) (some (routeIn b (v .best)))

@@ -1,6 +1,11 @@
--- What the values that the code hands about mean. `Query`, `Search`, `Stepped` and `Counts` are declared by the code.
+-- What the values that the code hands about mean. `Query`, `Search` and `Stepped` are declared by the code.
 --
---   countsOf b          how many named belts the plan b has, and in how many rules each of them is, the rest of the array 0
+--   countsOf p          in how many rules each named belt of the plan p is, as an array of maxNamed, the rest of it 0
+--   numbersOf p         the numbers of the plan p: where its words stand (rowNumbers), these counts, and how many modes there are
+--   countAt, modesAt    what such an array has
+--   Prepared b words numbers places clauses
+--                       THE PREPARED PLAN: the plan b is accepted, and the four arrays are its own: its words, its numbers, the places of its named
+--                       belts, and its clauses
 --   pickedPlace ns o    the place of the belt picked, among the named belts ns; no place where none is
 --   noFixings           the masks of the subproblem that fixes nothing
 --   maxWaiting          how many subproblems can wait at once: each fixes as many named belts as there are older ones, or more
@@ -16,10 +21,8 @@
 --   Valid b v           a Search of the plan b: its masks are over the named belts, each waiting subproblem fixes enough of them, the best
 --                       is of belts of the plan and its bound is what that costs, and what is not in use is 0. So equal states are equal values
 --                       (Claims.antt)
---   Ready b places belts offsets arcs exits clauses counts q
---                       the tables of a search are those of the plan b: it is accepted, `places`, `belts` and `counts` are those of its named belts,
---                       `offsets` and `arcs` its adjacency array, `exits` the named belts that leave each junction, `clauses` its rules;
---                       and s and t are junctions
+--   Ready b words numbers places clauses q
+--                       the arrays are the prepared plan b, and s and t of the query q are its junctions
 --   stepIn b q v        one step of the query q from the state that a Search stands for
 --   newestOf v          the masks of the newest subproblem that waits
 --   relaxedIn b q f     the relaxed route of the masks f for the trip q
@@ -39,16 +42,16 @@ use Rattle.plan.specs.declared.named.Place.{Place}
 use Rattle.plan.specs.declared.named.Place.the-variants.{Unnamed}
 use Rattle.plan.specs.Bounds.{maxNamed}
 use Rattle.plan.specs.Plan.{Belt, Plan, planOf, named, placeOf}
-use Rattle.plan.specs.Adjacency.{arcsIn, offsetsOf}
-use Rattle.plan.specs.Reading.{Accepted}
+use Rattle.plan.specs.Records.{records}
+use Rattle.plan.specs.Words.{padded, wordsIn, rowNumbers, rowNumbersEnd}
+use Rattle.plan.specs.Reading.{Accepted, Bytes}
 use Rattle.route.specs.declared.path.Route.{Route}
 use Rattle.route.specs.declared.path.Trip.{Trip}
 use Rattle.route.specs.declared.relax.Fixings.{Fixings}
 use Rattle.route.specs.Routes.{wrongEnds, cost}
 use Rattle.route.specs.Subproblems.{Subproblem, relaxed}
-use Rattle.route.specs.Values.{idsOf, packed, Known, routeIn, OfNamed, subproblemIn, namedPlaces, numbersOf, exitsOf, atMost, unbounded, walkedOf, Clauses}
+use Rattle.route.specs.Values.{idsOf, packed, Known, routeIn, OfNamed, subproblemIn, namedPlaces, atMost, unbounded, walkedOf, Clauses}
 use Rattle.search.specs.declared.query.Query.{Query}
-use Rattle.search.specs.declared.pick.Counts.{Counts}
 use Rattle.search.specs.declared.state.Search.{Search}
 use Rattle.search.specs.declared.state.Stepped.{Stepped}
 use Rattle.search.specs.Branching.{fixedCount, ruleCount}
@@ -59,11 +62,32 @@ use Rattle.search.specs.Answers.{Request, problemIn}
 
 -- ---- picks
 
-abbrev pub countsOf : List ℕ → Counts
-countsOf b = record {
-  named = length (named (planOf b));
-  rules = map (ruleCount (planOf b)) (named (planOf b)) ++ replicate (maxNamed - length (named (planOf b))) 0;
-}
+abbrev pub countsOf : Plan → List ℕ
+countsOf p = padded maxNamed (map (ruleCount p) (named p))
+
+unfoldable pub numbersOf : Plan → List ℕ
+numbersOf p = rowNumbers p ++ (countsOf p ++ (p .modes ∷ []))
+
+abbrev pub countsFrom : ℕ
+countsFrom = rowNumbersEnd
+
+abbrev pub modesFrom : ℕ
+modesFrom = countsFrom + maxNamed
+
+abbrev pub countAt : List ℕ → ℕ → ℕ
+countAt ns k = getD ns (countsFrom + k) 0
+
+abbrev pub modesAt : List ℕ → ℕ
+modesAt ns = getD ns modesFrom 0
+
+pub record Prepared (b words numbers places clauses : List ℕ) : Type 0 where
+  pub accepted : Accepted b
+  pub bytes : Bytes b
+  pub worded : words ≡ wordsIn (length words) (planOf b)
+  pub words-fit : maxNamed + records b ≤ length words
+  pub numbered : numbers ≡ numbersOf (planOf b)
+  pub placed : places ≡ namedPlaces b
+  pub ruled : Clauses b clauses
 
 abbrev pub pickedPlace : List ℕ → Option ℕ → Place
 pickedPlace ns none = Unnamed
@@ -121,15 +145,8 @@ pub record Valid (b : List ℕ) (v : Search) : Type 0 where
   pub unheld : isHeld (v .bound) ≡ false → v .best ≡ packed []
   pub bound-is : v .bound ≡ boundOf (bestIn b (isHeld (v .bound)) (v .best))
 
-pub record Ready (b : List ℕ) (places belts offsets arcs exits clauses : List ℕ) (counts : Counts) (q : Query) : Type 0 where
-  pub accepted : Accepted b
-  pub placed : places ≡ namedPlaces b
-  pub numbered : belts ≡ numbersOf (named (planOf b))
-  pub ended : offsets ≡ offsetsOf (planOf b)
-  pub listed : arcs ≡ arcsIn (length arcs) (planOf b)
-  pub left : exits ≡ exitsOf b
-  pub ruled : Clauses b clauses
-  pub counted : counts ≡ countsOf b
+pub record Ready (b words numbers places clauses : List ℕ) (q : Query) : Type 0 where
+  pub prepared : Prepared b words numbers places clauses
   pub junctions : wrongEnds (planOf b) (q .trip .s) (q .trip .t) ≡ false
 
 abbrev pub newestOf : Search → Fixings

@@ -1,42 +1,38 @@
 // The planner's answer to a query, for any bytes and any numbers: lines 1 to 10 of the refusal table, and the search.
-use crate::pick;
+use crate::prepare;
 use crate::query;
 use crate::query::Query;
 use crate::run;
 use crate::state::Ending;
 use crate::state::Search;
-use plan::adjacency;
-use plan::bounds::JUNCTION_PLACES;
+use plan::bounds::MAX_NAMED;
 use plan::bounds::MAX_RECORDS;
 use plan::bounds::MAX_SHEET_BYTES;
 use plan::bounds::RECORD_BYTES;
 use plan::check::Verdict;
-use plan::named;
-use plan::named::Named;
-use plan::read;
 use plan::refusal;
 use plan::refusal::Refusal;
-use route::clauses;
+use plan::words;
+use plan::words::NUMBERS;
 use route::masks;
 use route::modes;
 use route::modes::Lowest;
 use route::path;
-use route::relax;
 use route::sheet;
 use route::sheet::Sheet;
 ghost use mathlib.Core.Path.{_≡_};
-ghost use mathlib.Core.Bool.{false};
-ghost use Prim.Native.Nat.{_≤_};
+ghost use mathlib.Core.Bool.{true, false};
+ghost use mathlib.Core.List.{List};
+ghost use Prim.Native.Nat.{ℕ, _≤_};
 ghost use lib.ListN.{length};
 ghost use Rattle.plan.specs.Bounds.{maxSheetBytes};
-ghost use Rattle.plan.specs.Plan.{planOf, named, listed};
-ghost use Rattle.plan.specs.Adjacency.{arcsIn, offsetsOf};
+ghost use Rattle.plan.specs.Plan.{planOf};
 ghost use Rattle.plan.specs.Reading.{Accepted};
 ghost use Rattle.route.specs.Routes.{wrongEnds};
-ghost use Rattle.route.specs.Values.{settingIn, namedPlaces, Clauses};
+ghost use Rattle.route.specs.Values.{settingIn};
 ghost use Rattle.search.specs.Answers.{orZero, unlessRefused, outcome, replyOf, Told};
-ghost use Rattle.search.specs.Values.{requestOf, Valid};
-ghost use Rattle.search.specs.Inner.{bestOf};
+ghost use Rattle.search.specs.Values.{isHeld, Valid, Ready, requestOf};
+ghost use Rattle.search.specs.Inner.{Listed, bestOf};
 
 // Plans of at most so many records are decoded into arrays of this size, which take less time to clear than those of the largest plan.
 const SMALL_PLAN: usize = 256;
@@ -75,103 +71,81 @@ fn setting_of(lowest: Lowest) -> u16
     }
 }
 
-// Writes the sheet of the best route of a search that has found it, and answers its length. `places` and `clauses` are those of the plan.
+// Writes the sheet of the best route of a search that has found it, and answers its length. `numbers`, `places` and `clauses` are those of a prepared plan.
 fn write_best(
-    p: &[u8],
+    numbers: &[u16; NUMBERS],
     places: &[u8; MAX_RECORDS],
     clauses: &[u32],
     search: Search,
     out: &mut [u8],
 ) -> Answer
-    requires { ⌜ Accepted (now p)
-        × (now places ≡ namedPlaces (now p))
-        × Clauses (now p) (now clauses)
-        × Valid (now p) search
+    requires { ⌜ ((b : List ℕ)
+        × Listed b (now numbers) (now places) (now clauses)
+        × Valid b search)
+        × (isHeld (search .bound) ≡ true)
         × (maxSheetBytes ≤ length (now out)) ⌝ }
-    ensures { λ v. ⌜ Told (replyOf v) (now (out .entry)) (now (out .exit)) (bestOf (now (p .entry)) search) ⌝ }
+    ensures { λ v. ⌜ ((b : List ℕ)
+        → Listed b (now (numbers .entry)) (now (places .entry)) (now (clauses .entry))
+        → Valid b search
+        → Told (replyOf v) (now (out .entry)) (now (out .exit)) (bestOf b search)) ⌝ }
 {
     let route = search.best;
-    let mask = masks::on_route(places, route);
-    let lowest = modes::lowest_setting(read::modes(p), clauses, mask);
+    let modes = words::wide(numbers[words::MODES]);
     let sheet = Sheet {
         route: route,
-        cost: path::cost(p, route),
-        setting: setting_of(lowest),
+        cost: search.bound,
+        setting: setting_of(modes::lowest_setting(modes, clauses, masks::on_route(places, route))),
     };
     let size = sheet::write(out, sheet);
     Answer::Found(search.opened, size)
 }
 
-// The answer to a query that no line refuses. The tables are decoded from the plan: the list and the places of its named belts (plan::named), its
-// adjacency array (plan::adjacency::decode) and its clauses (route::clauses::decode).
-fn find_over(
-    p: &[u8],
-    query: Query,
-    list: Named,
+// The answer to a query of a prepared plan (prepare::prepare) that no line refuses.
+pub fn find(
+    words: &[u64],
+    numbers: &[u16; NUMBERS],
     places: &[u8; MAX_RECORDS],
-    offsets: &[u16; JUNCTION_PLACES],
-    arcs: &[u64],
     clauses: &[u32],
+    query: Query,
     out: &mut [u8],
 ) -> Answer
-    requires { ⌜ Accepted (now p)
-        × (wrongEnds (planOf (now p)) (query .trip .s) (query .trip .t) ≡ false)
-        × (maxSheetBytes ≤ length (now out))
-        × (list .count ≡ length (named (planOf (now p))))
-        × (list .belts ≡ listed (named (planOf (now p))))
-        × (now places ≡ namedPlaces (now p))
-        × (now offsets ≡ offsetsOf (planOf (now p)))
-        × (now arcs ≡ arcsIn (length (now arcs)) (planOf (now p)))
-        × Clauses (now p) (now clauses) ⌝ }
-    ensures { λ v. ⌜ Told (replyOf v) (now (out .entry)) (now (out .exit)) (unlessRefused 0 (requestOf (now (p .entry)) query (now (out .entry)))) ⌝ }
+    requires { ⌜ ((b : List ℕ)
+        × Ready b (now words) (now numbers) (now places) (now clauses) query)
+        × (maxSheetBytes ≤ length (now out)) ⌝ }
+    ensures { λ v. ⌜ ((b : List ℕ)
+        → Ready b (now (words .entry)) (now (numbers .entry)) (now (places .entry)) (now (clauses .entry)) query
+        → Told (replyOf v) (now (out .entry)) (now (out .exit)) (unlessRefused 0 (requestOf b query (now (out .entry))))) ⌝ }
 {
-    let belts = relax::numbers(p, list);
-    let mut exits = [0u64; JUNCTION_PLACES];
-    relax::exits(p, places, offsets, arcs, &mut exits);
-    let counts = pick::rule_counts(p, places, list.count);
-    let stepped = run::run(
-        p,
-        places,
-        &belts,
-        offsets,
-        arcs,
-        &exits,
-        clauses,
-        counts,
-        query,
-    );
+    let stepped = run::run(words, numbers, places, clauses, query);
     let search = stepped.search;
     let ending = stepped.ending;
     match ending {
-        Ending::Found => write_best(p, places, clauses, search, out),
+        Ending::Found => write_best(numbers, places, clauses, search, out),
         Ending::Nothing => Answer::Nothing(search.opened),
         Ending::Spent => Answer::Spent(search.opened),
         Ending::GoesOn => Answer::Paused(search.opened),
     }
 }
 
-// The same; decodes the plan first. The arrays are cleared for each query, so a small plan (SMALL_PLAN) gets smaller ones.
+// The same of an accepted plan, which is prepared first. The arrays are cleared for each query, so a small plan (SMALL_PLAN) gets smaller ones.
 fn find_route(p: &[u8], query: Query, out: &mut [u8]) -> Answer
     requires { ⌜ Accepted (now p)
         × (wrongEnds (planOf (now p)) (query .trip .s) (query .trip .t) ≡ false)
         × (maxSheetBytes ≤ length (now out)) ⌝ }
     ensures { λ v. ⌜ Told (replyOf v) (now (out .entry)) (now (out .exit)) (unlessRefused 0 (requestOf (now (p .entry)) query (now (out .entry)))) ⌝ }
 {
-    let list = named::named_belts(p);
+    let mut numbers = [0u16; NUMBERS];
     let mut places = [0u8; MAX_RECORDS];
-    named::places_among(p, list, &mut places);
     if p.len() <= SMALL_PLAN_BYTES {
-        let mut arcs = [0u64; SMALL_PLAN];
-        let offsets = adjacency::decode(p, &mut arcs);
+        let mut words = [0u64; MAX_NAMED + SMALL_PLAN];
         let mut clauses = [0u32; SMALL_PLAN];
-        clauses::decode(p, &places, &mut clauses);
-        return find_over(p, query, list, &places, &offsets, &arcs, &clauses, out);
+        prepare::prepare(p, &mut words, &mut numbers, &mut places, &mut clauses);
+        return find(&words, &numbers, &places, &clauses, query, out);
     }
-    let mut arcs = [0u64; MAX_RECORDS];
-    let offsets = adjacency::decode(p, &mut arcs);
+    let mut words = [0u64; MAX_NAMED + MAX_RECORDS];
     let mut clauses = [0u32; MAX_RECORDS];
-    clauses::decode(p, &places, &mut clauses);
-    find_over(p, query, list, &places, &offsets, &arcs, &clauses, out)
+    prepare::prepare(p, &mut words, &mut numbers, &mut places, &mut clauses);
+    find(&words, &numbers, &places, &clauses, query, out)
 }
 
 // Answers a query. On a route its sheet is written to the start of the out buffer; else no byte of it changes.

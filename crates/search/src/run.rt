@@ -1,36 +1,36 @@
 // The search from its beginning to its ending.
-use crate::pick::Counts;
 use crate::query::Query;
 use crate::state;
 use crate::state::Ending;
 use crate::state::Stepped;
-use plan::bounds::JUNCTION_PLACES;
-use plan::bounds::MAX_NAMED;
 use plan::bounds::MAX_RECORDS;
 use plan::bounds::MAX_STEPS;
+use plan::words::NUMBERS;
+use route::ways::WAYS;
 ghost use mathlib.Core.Path.{_≡_};
+ghost use mathlib.Core.List.{List};
+ghost use Prim.Native.Nat.{ℕ};
 ghost use Rattle.search.specs.Search.{run};
 ghost use Rattle.search.specs.Answers.{problemIn};
 ghost use Rattle.search.specs.Values.{turnIn, Valid, Ready};
 
-// Makes steps until one ends the search. The tables are those of `step`. What a step hands back stays in one struct: to move the Search out of it
-// would copy it. All steps share the scratch arrays `ways` and `walked`.
+// Makes steps until one ends the search. The arrays are a prepared plan (prepare::prepare). What a step hands back stays in one struct: to move the Search
+// out of it would copy it. All steps share the scratch arrays `ways` and `walked`.
 pub fn run(
-    p: &[u8],
+    words: &[u64],
+    numbers: &[u16; NUMBERS],
     places: &[u8; MAX_RECORDS],
-    belts: &[u16; MAX_NAMED],
-    offsets: &[u16; JUNCTION_PLACES],
-    arcs: &[u64],
-    exits: &[u64; JUNCTION_PLACES],
     clauses: &[u32],
-    counts: Counts,
     query: Query,
 ) -> Stepped
-    requires { ⌜ Ready (now p) (now places) (now belts) (now offsets) (now arcs) (now exits) (now clauses) counts query ⌝ }
-    ensures { λ v. ⌜ (turnIn (now (p .entry)) v ≡ run (problemIn (now (p .entry)) query) (query .budget))
-        × Valid (now (p .entry)) (v .search) ⌝ }
+    requires { ⌜ ((b : List ℕ)
+        × Ready b (now words) (now numbers) (now places) (now clauses) query) ⌝ }
+    ensures { λ v. ⌜ ((b : List ℕ)
+        → Ready b (now (words .entry)) (now (numbers .entry)) (now (places .entry)) (now (clauses .entry)) query
+        → (turnIn b v ≡ run (problemIn b query) (query .budget))
+        × Valid b (v .search)) ⌝ }
 {
-    let mut ways = [0u64; JUNCTION_PLACES];
+    let mut ways = [0u64; WAYS];
     let mut walked = [0u16; MAX_STEPS];
     let mut stepped = Stepped {
         search: state::begin(),
@@ -41,14 +41,10 @@ pub fn run(
         match ending {
             Ending::GoesOn => {
                 stepped = stepped.search.step(
-                    p,
+                    words,
+                    numbers,
                     places,
-                    belts,
-                    offsets,
-                    arcs,
-                    exits,
                     clauses,
-                    counts,
                     query,
                     &mut ways,
                     &mut walked,

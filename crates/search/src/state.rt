@@ -1,14 +1,13 @@
 // The search between two steps, and one step of it: the paper's six.
 use crate::pick;
-use crate::pick::Counts;
 use crate::query::Query;
-use plan::bounds::JUNCTION_PLACES;
 use plan::bounds::MAX_NAMED;
 use plan::bounds::MAX_RECORDS;
 use plan::bounds::MAX_STEPS;
 use plan::named::Place;
-use plan::read;
 use plan::read::BeltId;
+use plan::words;
+use plan::words::NUMBERS;
 use route::masks;
 use route::modes;
 use route::modes::Lowest;
@@ -16,14 +15,17 @@ use route::path;
 use route::path::Route;
 use route::relax;
 use route::relax::Fixings;
+use route::ways::WAYS;
 ghost use mathlib.Core.Path.{_≡_};
-ghost use Prim.Native.Nat.{_≤_, _<_};
+ghost use mathlib.Core.List.{List};
+ghost use Prim.Native.Nat.{ℕ, _≤_, _<_};
 ghost use lib.ListN.{length, replicate};
-ghost use Rattle.plan.specs.Bounds.{junctionPlaces, maxSteps};
+ghost use Rattle.plan.specs.Bounds.{maxSteps};
+ghost use Rattle.plan.specs.Plan.{planOf};
 ghost use Rattle.plan.specs.declared.named.Place.the-variants.{At};
-ghost use Rattle.plan.specs.Reading.{Accepted};
-ghost use Rattle.route.specs.Values.{OfNamed, hasBelt, Clauses};
-ghost use Rattle.search.specs.Values.{countsOf, turnIn, Valid, isHeld, firstSearch, noFixings, Ready, stepIn, walkedIn};
+ghost use Rattle.route.specs.Values.{OfNamed, hasBelt, Ruled};
+ghost use Rattle.route.specs.Ways.{wayPlaces};
+ghost use Rattle.search.specs.Values.{numbersOf, turnIn, Valid, isHeld, firstSearch, noFixings, Ready, stepIn, walkedIn};
 ghost use Rattle.search.specs.Inner.{endedAs, childAt, judgedIn};
 
 // How many subproblems can wait at once: each fixes as many named belts as there are older ones, or more.
@@ -107,24 +109,27 @@ fn at_end(bound: u64) -> Ending
 
 // What becomes of a subproblem whose relaxed route improves on the best, and has the named belts of the mask: steps 4 to 6.
 fn judge(
-    p: &[u8],
+    numbers: &[u16; NUMBERS],
     clauses: &[u32],
-    counts: Counts,
     query: Query,
     fixings: Fixings,
     mask: u64,
 ) -> Judged
-    requires { ⌜ Accepted (now p)
-        × Clauses (now p) (now clauses)
-        × (counts ≡ countsOf (now p))
-        × OfNamed (now p) mask ⌝ }
-    ensures { λ v. ⌜ v ≡ judgedIn (now (p .entry)) query fixings (hasBelt (now (p .entry)) mask) ⌝ }
+    requires { ⌜ ((b : List ℕ)
+        × Ruled b (now clauses)
+        × (now numbers ≡ numbersOf (planOf b))
+        × OfNamed b mask) ⌝ }
+    ensures { λ v. ⌜ ((b : List ℕ)
+        → Ruled b (now (clauses .entry))
+        → now (numbers .entry) ≡ numbersOf (planOf b)
+        → OfNamed b mask
+        → v ≡ judgedIn b query fixings (hasBelt b mask)) ⌝ }
 {
-    let setting = modes::lowest_setting(read::modes(p), clauses, mask);
+    let setting = modes::lowest_setting(words::wide(numbers[words::MODES]), clauses, mask);
     match setting {
         Lowest::Works(lowest) => Judged::Best,
         Lowest::Nothing => {
-            let place = pick::picked(counts, query.pick, fixings, mask);
+            let place = pick::picked(numbers, query.pick, fixings, mask);
             match place {
                 Place::At(k) => Judged::Branch(k),
                 Place::Unnamed => Judged::Drop,
@@ -151,35 +156,33 @@ fn child(fixings: Fixings, k: usize, required: bool) -> Fixings
 }
 
 impl Search {
-    // One step. The tables are made once for all steps: the places of the plan's named belts (plan::named::named_places) and their indices
-    // (route::relax::numbers), its adjacency array (plan::adjacency::decode), the named belts that leave each junction (route::relax::exits), its
-    // clauses (route::clauses::decode) and the counts (pick::rule_counts). `ways` and `walked` are scratch arrays: `ways` is all 0 before and after;
-    // `walked` has the relaxed route of the opened subproblem, if there is one within the bound, over what it had before. Only this function writes to
-    // the Search: passing the struct (1.3 KB) to a helper by value would copy it there and back. The relaxed route is read from `walked` only if its
-    // cost equals the bound, or if it becomes the best.
+    // One step. `words`, `numbers`, `places` and `clauses` are a prepared plan (prepare::prepare). `ways` and `walked` are scratch arrays: `ways` is all 0
+    // before and after; `walked` has the relaxed route of the opened subproblem, if there is one within the bound, over what it had before. Only this
+    // function writes to the Search: passing the struct (1.3 KB) to a helper by value would copy it there and back. The relaxed route is read from
+    // `walked` only if its cost equals the bound, or if it becomes the best.
     pub fn step(
         mut self,
-        p: &[u8],
+        words: &[u64],
+        numbers: &[u16; NUMBERS],
         places: &[u8; MAX_RECORDS],
-        belts: &[u16; MAX_NAMED],
-        offsets: &[u16; JUNCTION_PLACES],
-        arcs: &[u64],
-        exits: &[u64; JUNCTION_PLACES],
         clauses: &[u32],
-        counts: Counts,
         query: Query,
-        ways: &mut [u64; JUNCTION_PLACES],
+        ways: &mut [u64; WAYS],
         walked: &mut [u16; MAX_STEPS],
     ) -> Stepped
-        requires { ⌜ Ready (now p) (now places) (now belts) (now offsets) (now arcs) (now exits) (now clauses) counts query
-            × Valid (now p) self
+        requires { ⌜ ((b : List ℕ)
+            × Ready b (now words) (now numbers) (now places) (now clauses) query
+            × Valid b self)
             × (self .opened ≤ query .budget)
-            × (now ways ≡ replicate junctionPlaces 0)
+            × (now ways ≡ replicate wayPlaces 0)
             × (length (now walked) ≡ maxSteps) ⌝ }
-        ensures { λ v. ⌜ (turnIn (now (p .entry)) v ≡ stepIn (now (p .entry)) query self)
-            × Valid (now (p .entry)) (v .search)
-            × (now (ways .exit) ≡ now (ways .entry))
-            × (now (walked .exit) ≡ walkedIn (now (p .entry)) query self (now (walked .entry))) ⌝ }
+        ensures { λ v. ⌜ (now (ways .exit) ≡ now (ways .entry))
+            × ((b : List ℕ)
+            → Ready b (now (words .entry)) (now (numbers .entry)) (now (places .entry)) (now (clauses .entry)) query
+            → Valid b self
+            → (turnIn b v ≡ stepIn b query self)
+            × Valid b (v .search)
+            × (now (walked .exit) ≡ walkedIn b query self (now (walked .entry)))) ⌝ }
     {
         if self.count == 0 {
             return Stepped {
@@ -204,12 +207,9 @@ impl Search {
         let trip = query.trip;
         let bound = self.bound;
         let summary = relax::relaxed_route(
-            p,
+            words,
+            numbers,
             places,
-            belts,
-            offsets,
-            arcs,
-            exits,
             trip,
             fixings,
             bound,
@@ -221,7 +221,7 @@ impl Search {
             better = path::lower(path::of_belts(walked, summary.count), self.best);
         }
         if better {
-            let judged = judge(p, clauses, counts, query, fixings, summary.named);
+            let judged = judge(numbers, clauses, query, fixings, summary.named);
             match judged {
                 Judged::Drop => {}
                 Judged::Best => {

@@ -1,13 +1,15 @@
 // What is printed of a case: its relaxed route, or why there is none.
-use plan::bounds::JUNCTION_PLACES;
+use plan::bounds::MAX_NAMED;
 use plan::bounds::MAX_RECORDS;
 use plan::bounds::MAX_STEPS;
 use plan::named::Place;
 use plan::read::BeltId;
+use plan::words::NUMBERS;
 use route::masks;
 use route::path::Trip;
 use route::relax::Fixings;
 use route::relax::Summary;
+use route::ways::WAYS;
 use test_cases::lines;
 use test_cases::plans::Plan;
 use test_cases::print::print_number;
@@ -99,20 +101,15 @@ fn print_over(p: &[u8], places: &[u8; MAX_RECORDS], trip: Trip, fixings: Fixings
         × (wrongEnds (planOf (now p)) (trip .s) (trip .t) ≡ false)
         × OfNamed (now p) (fixings .required) ⌝ }
 {
-    let mut arcs = [0u64; MAX_RECORDS];
-    let offsets = plan::adjacency::decode(p, &mut arcs);
-    let mut exits = [0u64; JUNCTION_PLACES];
-    route::relax::exits(p, places, &offsets, &arcs, &mut exits);
-    let belts = route::relax::numbers(p, plan::named::named_belts(p));
-    let mut ways = [0u64; JUNCTION_PLACES];
+    let mut words = [0u64; MAX_NAMED + MAX_RECORDS];
+    let mut numbers = [0u16; NUMBERS];
+    plan::words::fill(p, places, &mut words, &mut numbers);
+    let mut ways = [0u64; WAYS];
     let mut walked = [0u16; MAX_STEPS];
     let summary = route::relax::relaxed_route(
-        p,
+        &words,
+        &numbers,
         places,
-        &belts,
-        &offsets,
-        &arcs,
-        &exits,
         trip,
         fixings,
         route::relax::UNBOUNDED,

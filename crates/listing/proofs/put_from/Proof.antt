@@ -1,14 +1,21 @@
--- `put_from`: the junctions left are fewer at each turn. Assumes nothing.
-use Prim.Native.Nat.{_-_}
+-- `put_from`: each pair is of junctions of the plan, and the junctions left are fewer at each turn. Assumes nothing.
+use mathlib.Core.Path.{_≡_, ap}
+use mathlib.Core.Bool.{false, not}
+use Prim.Native.Nat.{ℕ, _+_, _-_, _≤_}
+use native.Mathlib.Omega.{arith}
 use borrow.Author.Needs.{needs}
+use Rattle.plan.specs.Lists.{within}
+use Rattle.plan.specs.Plan.{Plan, planOf}
+use Rattle.plan.proofs.Lists.{and-is, is-within}
+use Rattle.route.specs.Routes.{wrongEnds}
 use Rattle.listing.proofs.put_from.Statement.{statement}
 use Rattle.listing.proofs.put_from.Tie as tie
 
 abbrev Inv-loop : tie.InvT-loop
-Inv-loop room₀ p s last now₀ t₀ room now t = Unit {0}
+Inv-loop room₀ words numbers places clauses s last now₀ t₀ room now t = s ≤ t
 
 abbrev μ-loop : tie.MeasureT-loop
-μ-loop room₀ p s last now₀ t₀ room now t = last - t
+μ-loop room₀ words numbers places clauses s last now₀ t₀ room now t = last - t
 
 loop-holds : tie.Need-loop-holds Inv-loop μ-loop
 loop-holds c = search needs
@@ -16,8 +23,21 @@ loop-holds c = search needs
 add-t : tie.Need-add-t Inv-loop μ-loop
 add-t c = search needs
 
+-- two junctions of a plan
+ends : (p : Plan) (s t : ℕ) → 1 ≤ s → s ≤ p .junctions → 1 ≤ t → t ≤ p .junctions → wrongEnds p s t ≡ false
+ends p s t a b c d =
+    let J = p .junctions in
+    ap not (and-is (within 1 s J) (within 1 t J) (is-within 1 s J a b) (is-within 1 t J c d))
+
 put-pair-requires : tie.Need-put-pair-requires Inv-loop μ-loop
-put-pair-requires c κs = search needs
+put-pair-requires c κs =
+    let turn = c .before in
+    let loop = turn .before .loop in
+    let start = turn .before .before .before .before in
+    let ((b, prepared, last), one) = start .pre in
+    let inv = loop .inv in
+    let left = turn .loop-test .taken in
+    (b, prepared, ends (planOf b) (start .args .s) (loop .t + 1) one (omega arith) (omega arith) (omega arith))
 
 loop-less : tie.Need-loop-less Inv-loop μ-loop
 loop-less c = search needs

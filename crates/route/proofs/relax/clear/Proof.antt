@@ -1,8 +1,8 @@
--- `route::relax::clear` meets its contract. Invariant: the places before j and from t on are 0. Assumes nothing.
+-- `relax::clear` meets its contract. Invariant: the array is 0 but for the places from j on and before t. Assumes nothing.
 use Prim.Native.Nat.{_-_}
 use native.Mathlib.Omega.{arith}
-use Rattle.route.specs.Inner.{Spared}
-use Rattle.route.proofs.RelaxWays.{spared-next, spared-cleared}
+use Rattle.route.specs.Ways.{Spared}
+use Rattle.route.proofs.WalkClear.{spared-next, spared-cleared}
 use Rattle.route.proofs.relax.clear.Statement.{statement}
 use Rattle.route.proofs.relax.clear.Tie as tie
 
@@ -20,6 +20,15 @@ mul-ways c = omega (arith, c .loop-test .taken, c .before .before .pre .0)
 
 element-write-ways : tie.Need-element-write-ways Inv-loop μ-loop
 element-write-ways c = omega (arith, c .loop-test .taken, c .before .before .pre .0)
+
+add-ways : tie.Need-add-ways Inv-loop μ-loop
+add-ways c = omega (arith, c .loop-test .taken, c .before .before .pre .0)
+
+mul-ways-2 : tie.Need-mul-ways-2 Inv-loop μ-loop
+mul-ways-2 c = omega (arith, c .loop-test .taken, c .before .before .pre .0)
+
+element-write-ways-2 : tie.Need-element-write-ways-2 Inv-loop μ-loop
+element-write-ways-2 c = omega (arith, c .loop-test .taken, c .before .before .pre .0)
 
 add-j : tie.Need-add-j Inv-loop μ-loop
 add-j c = omega (arith, c .loop-test .taken, c .before .before .pre .0)
@@ -42,6 +51,9 @@ clear-spec =
     loop-holds
     mul-ways
     element-write-ways
+    add-ways
+    mul-ways-2
+    element-write-ways-2
     add-j
     loop-less
     loop-again

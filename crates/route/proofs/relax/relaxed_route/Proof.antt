@@ -1,119 +1,195 @@
--- `relax::relaxed_route` meets its contract: the way on from s, where there is one within the bound, is walked, and what the pass left is cleared. Assumes
--- nothing.
+-- `relax::relaxed_route` meets its contract: the pass, where it finds a way the walk along it, and what the pass left is cleared (WalkAnswer.antt).
+-- Assumes nothing.
 use mathlib.Core.Path.{_≡_, sym, _∙_, ap}
 use mathlib.Core.Logic.{⊎-elim}
-use mathlib.Core.Option.{Option}
-use Prim.Native.Nat.{_≤_}
+use mathlib.Core.Bool.{false}
+use mathlib.Core.Option.{Option, none}
+use Prim.Native.Nat.{ℕ, _+_, _*_, _-_, _/_, _≤_}
 use mathlib.Core.List.{List}
 use native.Mathlib.Omega.{arith}
 use borrow.Author.Needs.{needs}
-use borrow.Author.Tests.{not-true, not-false}
+use Rattle.plan.specs.Bounds.{maxJunctions}
 use Rattle.plan.specs.Plan.{Belt, planOf}
+use Rattle.plan.specs.Words.{linkLimit, far}
 use Rattle.plan.proofs.Reading.{plan-sizes}
+use Rattle.route.specs.declared.relax.Summary.{Summary}
+use Rattle.route.specs.Routes.{wrongEnds}
 use Rattle.route.specs.Subproblems.{relaxed}
-use Rattle.route.specs.Values.{subproblemIn, atMost, summaryAs, walkedOf}
-use Rattle.route.specs.Inner.{wayIn, wayCost}
+use Rattle.route.specs.Values.{subproblemIn, atMost, noSummary, summaryAs, walkedOf, Graph}
+use Rattle.route.specs.Walks.{walkAs}
 use Rattle.route.proofs.RouteIndices.{ends-junctions}
-use Rattle.route.proofs.RelaxBound.{at-most-lost, at-most-found}
+use Rattle.route.proofs.RelaxAsked.{none-apart, graph-placing}
+use Rattle.route.proofs.WalkAnswer.{none-past, Answer, pass-lost, pass-found}
 use Rattle.route.proofs.relax.relaxed_route.Statement.{statement}
 use Rattle.route.proofs.relax.relaxed_route.Tie as tie
 
--- s and t are junctions
-ends : (c : tie.Start) → let J = planOf (c .args .p .now) .junctions in let trip = c .args .trip in
-    (1 ≤ trip .s) × (trip .s ≤ J) × (1 ≤ trip .t) × (trip .t ≤ J)
-ends c = ends-junctions (planOf (c .args .p .now)) (c .args .trip .s) (c .args .trip .t) (c .pre .5)
+-- the arrays are those of the plan b
+abbrev Of : tie.Start → List ℕ → Type 0
+Of c b = let a = c .args in Graph b (a .words .now) (a .numbers .now) (a .places .now)
 
-may-lead-requires : tie.Need-may-lead-requires
-may-lead-requires c κs = search needs
+abbrev Ends : tie.Start → List ℕ → Type 0
+Ends c b = wrongEnds (planOf b) (c .args .trip .s) (c .args .trip .t) ≡ false
+
+-- its relaxed route within the bound
+abbrev route : tie.Start → List ℕ → Option (List Belt)
+route c b = let a = c .args in atMost (a .bound) (relaxed (planOf b) (a .trip .s) (a .trip .t) (subproblemIn b (a .fixings)))
+
+-- s and t are junctions
+ends : (c : tie.Start) → let trip = c .args .trip in (1 ≤ trip .s) × (1 ≤ trip .t) × (trip .t ≤ maxJunctions)
+ends c =
+    let (b, g, e, o) = c .pre .0 in
+    let (from, _, to, high) = ends-junctions (planOf b) (c .args .trip .s) (c .args .trip .t) e in
+    (from, to, omega (arith, plan-sizes (g .accepted) .1))
+
+sub-s : tie.Need-sub-s
+sub-s c = ends (c .before) .0
+
+sub-t : tie.Need-sub-t
+sub-t c = ends (c .before) .1
+
+-- where there is no route, nothing is answered and nothing is stored
+dropped : (c : tie.Start) (v : Summary) → v ≡ noSummary → (b : List ℕ) → route c b ≡ none
+    → (v ≡ summaryAs b (route c b)) × (c .args .walked .now ≡ walkedOf (route c b) (c .args .walked .now))
+dropped c v h b lost = (
+  h ∙ sym (ap (summaryAs b) lost),
+  sym (ap (λ (o : Option (List Belt)). walkedOf o (c .args .walked .now)) lost),
+)
 
 nothing-requires : tie.Need-nothing-requires
 nothing-requires c κs = search needs
 
 returns : tie.Need-returns
 returns c =
-    let asked = c .before .before in
-    let from = asked .before .before .before in
-    let lost = sym (asked .may-lead .ensures .1 (not-true _ (c .before .if1 .taken))) in (
-      c .nothing .ensures ∙ ap (λ (o : Option (List Belt)). summaryAs (from .args .p .now) (atMost (from .args .bound) o)) lost,
+    let from = c .before .before .before in
+    let a = from .args in (
       search needs,
-      ap (λ (o : Option (List Belt)). walkedOf (atMost (from .args .bound) o) (from .args .walked .now)) lost,
+      λ b g e o. dropped from _ (c .nothing .ensures) b (ap (atMost (a .bound)) (none-past g (a .fixings) (a .trip .s) (a .trip .t) e (c .before .if1 .taken))),
     )
-
-ways-to-requires : tie.Need-ways-to-requires
-ways-to-requires c κs =
-    let asked = c .before .before in
-    let from = asked .before .before .before in
-    let h = from .pre in
-    let forward = asked .may-lead .ensures .0 (not-false _ (c .before .if1 .left)) .0 in
-    (record { accepted = h .0; placed = h .1; ended = h .2; listed = h .3 }, h .4, ends from .0, forward, ends from .3, h .6, h .7, h .8, h .9)
-
--- the pass was asked for where the way on from s is the relaxed route
-abbrev asked : tie.After-ways-to → tie.After-may-lead
-asked c = c .before .before .before
-
-abbrev start : tie.After-ways-to → tie.Start
-start c = asked c .before .before .before
-
-abbrev way : tie.After-ways-to → Option (List Belt)
-way c = let a = start c .args in wayIn (a .p .now) (a .fixings) (a .trip .t) (a .trip .s)
-
-whole : (c : tie.After-ways-to) → let a = start c .args in way c ≡ relaxed (planOf (a .p .now)) (a .trip .s) (a .trip .t) (subproblemIn (a .p .now) (a .fixings))
-whole c = asked c .may-lead .ensures .0 (not-false _ (c .before .before .if1 .left)) .1
-
--- what is left of it by the bound
-abbrev walked : tie.After-ways-to → Option (List Belt)
-walked c = atMost (start c .args .bound) (way c)
 
 nothing-requires-2 : tie.Need-nothing-requires-2
 nothing-requires-2 c κs = search needs
 
+returns-2 : tie.Need-returns-2
+returns-2 c =
+    let from = c .before .before .before .before .before in
+    let a = from .args in (
+      search needs,
+      λ b g e o. dropped from _ (c .nothing2 .ensures) b (ap (atMost (a .bound)) (none-apart g (a .fixings) (a .trip .s) (a .trip .t) o (c .before .if2 .taken))),
+    )
+
+in-order-requires : tie.Need-in-order-requires
+in-order-requires c κs = let g = c .before .before .before .before .pre .0 .1 in (g .sound .named-few, g .sound .place-low)
+
+mul-ways-to : tie.Need-mul-ways-to
+mul-ways-to c = search needs
+
+sub-ways-to : tie.Need-sub-ways-to
+sub-ways-to c = search needs
+
+add-ways-to : tie.Need-add-ways-to
+add-ways-to c = search needs
+
+ways-to-requires : tie.Need-ways-to-requires
+ways-to-requires c κs =
+    let due = c .before in
+    let from = due .before .before .before .before .before in
+    let g = from .pre .0 .1 in (
+      g .sound,
+      from .pre .2,
+      due .before .before .before .if1 .left,
+      omega (arith, ends from .1, ends from .2),
+      due .in-order .ensures .0,
+      omega (arith, from .pre .1),
+      omega arith,
+    )
+
+-- the pass was asked for
+abbrev ordered : tie.After-ways-to → tie.After-in-order
+ordered c = c .before .before
+
+abbrev start : tie.After-ways-to → tie.Start
+start c = ordered c .before .before .before .before .before
+
+abbrev limit : tie.After-ways-to → ℕ
+limit c = start c .args .bound * linkLimit + (linkLimit - 1)
+
+limits : (c : tie.After-ways-to) → limit c / linkLimit ≡ start c .args .bound
+limits c = omega arith
+
+-- what it left
+abbrev ways' : tie.After-ways-to → List ℕ
+ways' c = c .ways-to .last .1 .1 .1 .1 .1 .1 .1 .0
+
+lost : (c : tie.After-ways-to) (b : List ℕ) → Of (start c) b → Ends (start c) b → c .ways-to .result ≡ far → route (start c) b ≡ none
+lost c b g e h =
+    let a = start c .args in
+    pass-lost g (a .fixings) (a .trip .s) (a .trip .t) e (a .bound) (limit c) (start c .pre .1) (limits c) (ordered c .before .if2 .left)
+    (ordered c .in-order .ensures .1) (c .ways-to .ensures .1) h
+
+found : (c : tie.After-ways-to) (b : List ℕ) → Of (start c) b → Ends (start c) b → (c .ways-to .result ≡ far → ⊥) → let a = start c .args in
+    Answer b (a .fixings) (a .bound) (a .trip .s) (a .trip .t) (c .ways-to .result) (ways' c)
+found c b g e h =
+    let a = start c .args in
+    pass-found g (a .fixings) (a .trip .s) (a .trip .t) e (a .bound) (limit c) (start c .pre .1) (limits c) (ordered c .before .if2 .left)
+    (ordered c .in-order .ensures .1) (c .ways-to .ensures .1) h
+
+nothing-requires-3 : tie.Need-nothing-requires-3
+nothing-requires-3 c κs = search needs
+
 walk-requires : tie.Need-walk-requires
 walk-requires c κs =
     let then = c .before .before in
-    let found = then .before .before in
-    let from = start found in
-    let is = found .ways-to .ensures in
-    let (same, within) = at-most-found (from .args .bound) (way found) (λ q. then .if2 .taken (is .0 ∙ q)) in
-    (from .pre .0, from .pre .1, ends from .0, ends from .3, then .if2 .taken, is .0 ∙ ap wayCost same, is .1 (omega (arith, is .0)))
+    let pass = then .before .before in
+    let (b, g, e, o) = start pass .pre .0 in
+    let is = found pass b g e (then .if3 .taken) in
+    (omega (arith, ends (start pass) .1, ends (start pass) .2), graph-placing g, (is .route, is .trail))
 
 clear-requires : tie.Need-clear-requires
 clear-requires c κs =
-    let found = c .before .before .before in
-    let from = start found in
-    (omega (arith, ends from .3, plan-sizes (from .pre .0) .1), found .ways-to .ensures .2)
+    let pass = c .before .before .before in
+    (omega (arith, ends (start pass) .2), pass .ways-to .ensures .0)
 
--- the answer and the room, for what is left by the bound
-returns-2 : tie.Need-returns-2
-returns-2 c =
-    let found = c .before .before .before .before in
-    let from = start found in
+returns-3 : tie.Need-returns-3
+returns-3 c =
+    let joined = c .before .before in
+    let pass = joined .before .before in
+    let from = start pass in
     let a = from .args in
-    let is = found .ways-to .ensures .0 in
-    let room = a .walked .now in
-    let asks : Option (List Belt) → Option (List Belt) = λ o. atMost (a .bound) o in
-    let (summary, stored) : (c .before .before .if2 .summary ≡ summaryAs (a .p .now) (walked found)) × (c .before .before .if2 .walked ≡ walkedOf (walked found) room) =
-    ⊎-elim
-    (λ w.
-    let same = sym (at-most-found (a .bound) (way found) (λ q. w .0 .taken (is ∙ q)) .0) in
-    (w .5 ∙ w .3 .ensures .0 ∙ ap (summaryAs (a .p .now)) same, w .4 ∙ w .3 .ensures .1 ∙ ap (λ (o : Option (List Belt)). walkedOf o room) same))
-    (λ w.
-    let lost = sym (at-most-lost (a .bound) (way found) (from .pre .7) (sym is ∙ w .0 .left)) in
-    (w .2 ∙ c .before .before .before .nothing2 .ensures ∙ ap (summaryAs (a .p .now)) lost, w .1 ∙ ap (λ (o : Option (List Belt)). walkedOf o room) lost))
-    (c .before .before .if2 .came) in (
-      summary ∙ ap (λ (o : Option (List Belt)). summaryAs (a .p .now) (asks o)) (whole found),
-      c .clear .ensures ∙ sym (from .pre .8),
-      stored ∙ ap (λ (o : Option (List Belt)). walkedOf (asks o) room) (whole found),
+    let room = a .walked .now in (
+      c .clear .ensures ∙ sym (from .pre .2),
+      λ b g e o.
+          ⊎-elim
+          (λ w.
+          let is = found pass b g e (w .0 .taken) in
+          let (summary, stored) = w .3 .ensures (is .route) (is .trail) in (
+            w .5
+                ∙ summary
+                ∙ (λ i. walkAs (g .placed i) (is .price i) (is .route))
+                ∙ sym (ap (summaryAs b) (is .is)),
+            w .4 ∙ stored ∙ sym (ap (λ (o' : Option (List Belt)). walkedOf o' room) (is .is)),
+          ))
+          (λ w.
+          let (summary, stored) = dropped from _ (joined .before .nothing3 .ensures) b (lost pass b g e (w .0 .left)) in
+          (w .2 ∙ summary, w .1 ∙ stored))
+          (joined .if3 .came),
     )
 
 pub relaxed-route-spec : {M : Type 1} → statement M
 relaxed-route-spec =
     tie.close
     (tie.spec
-    may-lead-requires
+    sub-s
+    sub-t
     nothing-requires
     returns
-    ways-to-requires
     nothing-requires-2
+    returns-2
+    in-order-requires
+    mul-ways-to
+    sub-ways-to
+    add-ways-to
+    ways-to-requires
+    nothing-requires-3
     walk-requires
     clear-requires
-    returns-2)
+    returns-3)

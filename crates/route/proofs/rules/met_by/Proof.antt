@@ -5,7 +5,7 @@ use mathlib.Core.List.{List}
 use borrow.Author.Needs.{needs}
 use Rattle.plan.specs.Bounds.{maxRecords}
 use Rattle.plan.specs.Plan.{planOf}
-use Rattle.plan.proofs.AdjacencyArcs.{records-few}
+use Rattle.plan.proofs.Reading.{records-few}
 use Rattle.route.specs.Permission.{allMet}
 use Rattle.route.specs.Values.{idsOf, OfNamed, gatheredIn, maskOf, hasBelt}
 use Rattle.route.proofs.RulesNamed.{known-low, route-placeable, mask-named, met-mask}

@@ -1,57 +1,89 @@
 -- `entry::write_best` meets its contract: the sheet is that of the best route, its cost and its lowest setting. Assumes nothing.
 use mathlib.Core.Path.{_≡_, sym, _∙_, ap, subst}
-use Prim.Native.Nat.{ℕ}
+use Prim.Native.Nat.{ℕ, _<_}
+use mathlib.Core.Bool.{Bool}
 use mathlib.Core.List.{List}
+use native.Mathlib.Omega.{arith}
 use borrow.Author.Needs.{needs}
 use Rattle.plan.specs.Plan.{planOf}
+use Rattle.plan.specs.Reading.{Accepted}
+use Rattle.route.specs.declared.path.Route.{Route}
+use Rattle.route.specs.Routes.{cost}
 use Rattle.route.specs.Permission.{planTerms, lowest}
-use Rattle.route.specs.Values.{idsOf, OfNamed, gatheredIn, maskOf, hasBelt, Ruled}
+use Rattle.route.specs.Values.{idsOf, routeIn, OfNamed, gatheredIn, maskOf, hasBelt}
+use Rattle.route.proofs.RouteIndices.{known-cheap}
 use Rattle.route.proofs.RulesNamed.{known-low, route-placeable, mask-named, lowest-mask}
 use Rattle.search.specs.Answers.{orZero}
+use Rattle.search.specs.Values.{bestIn, boundOf, Valid}
+use Rattle.search.specs.Inner.{Listed}
 use Rattle.search.proofs.AnswerReply.{written-best}
 use Rattle.search.proofs.entry.write_best.Statement.{statement}
 use Rattle.search.proofs.entry.write_best.Tie as tie
 
+-- the plan b is what the arrays are of, and the search is one of it
+abbrev Given : tie.Start → List ℕ → Type 0
+Given c b = Listed b (c .args .numbers .now) (c .args .places .now) (c .args .clauses .now) × Valid b (c .args .search)
+
+given : (c : tie.Start) → Given c (c .pre .0 .0)
+given c = (c .pre .0 .1, c .pre .0 .2)
+
+element-copy-out-wide : tie.Need-element-copy-out-wide
+element-copy-out-wide c = search needs
+
+wide-requires : tie.Need-wide-requires
+wide-requires c κs = search needs
+
 -- where it was asked for
-abbrev begun : tie.After-route → tie.Start
-begun c = c .before .before .before .before
+abbrev begun : tie.After-wide → tie.Start
+begun c = c .before .before .before .before .before
 
 on-route-requires : tie.Need-on-route-requires
 on-route-requires c κs =
     let start = begun c in
-    route-placeable (start .pre .0) (start .args .search .best) (start .pre .3 .known) (start .pre .1)
+    let (listed, valid) = given start in
+    route-placeable (listed .ruled .accepted) (start .args .search .best) (valid .known) (listed .placed)
 
--- the mask is that of the best route
-mask : (c : tie.After-on-route) → c .on-route .result ≡ maskOf (begun (c .before) .args .p .now) (idsOf (begun (c .before) .args .search .best))
-mask c =
-    let start = begun (c .before) in
-    c .on-route .ensures ∙ ap (λ (ps : List ℕ). gatheredIn ps 0 (idsOf (start .args .search .best))) (start .pre .1)
+module _ (c : tie.After-on-route) {b : List ℕ} (h : Given (begun (c .before)) b) where
+  abbrev best : Route
+  best = begun (c .before) .args .search .best
 
--- so it is of named belts
-of-named : (c : tie.After-on-route) → OfNamed (begun (c .before) .args .p .now) (c .on-route .result)
-of-named c =
-    let start = begun (c .before) in
-    let best = start .args .search .best in
-    let low = known-low (start .pre .0) best (start .pre .3 .known) in
-    subst (OfNamed (start .args .p .now)) (sym (mask c)) (mask-named (start .pre .0) (idsOf best) low)
+  abbrev ok : Accepted b
+  ok = h .0 .ruled .accepted
 
-modes-requires : tie.Need-modes-requires
-modes-requires c κs = begun (c .before) .pre .0
+  -- the mask is that of the best route
+  mask : c .on-route .result ≡ maskOf b (idsOf best)
+  mask = c .on-route .ensures ∙ ap (λ (ps : List ℕ). gatheredIn ps 0 (idsOf best)) (h .0 .placed)
+
+  -- so it is of named belts
+  of-named : OfNamed b (c .on-route .result)
+  of-named = subst (OfNamed b) (sym mask) (mask-named ok (idsOf best) (known-low ok best (h .1 .known)))
+
+  modes-are : c .before .wide .result ≡ planOf b .modes
+  modes-are = c .before .wide .ensures ∙ h .0 .modes
 
 lowest-setting-requires : tie.Need-lowest-setting-requires
 lowest-setting-requires c κs =
-    let gathered = c .before in
-    let start = begun (gathered .before) in
-    (start .args .p .now, record { accepted = start .pre .0; clauses = start .pre .2 }, of-named gathered, c .modes .ensures)
-
-cost-requires : tie.Need-cost-requires
-cost-requires c κs = search needs
+    let start = begun (c .before) in
+    let h = given start in
+    (start .pre .0 .0, h .0 .ruled, of-named c h, modes-are c h)
 
 setting-of-requires : tie.Need-setting-of-requires
 setting-of-requires c κs = search needs
 
+-- the bound is what the best route costs
+price : (c : tie.Start) {b : List ℕ} → Given c b → c .args .search .bound ≡ cost (routeIn b (c .args .search .best))
+price c {b} h = let v = c .args .search in h .1 .bound-is ∙ ap (λ (t : Bool). boundOf (bestIn b t (v .best))) (c .pre .1)
+
 write-requires : tie.Need-write-requires
-write-requires c κs = search needs
+write-requires c κs =
+    let start = begun (c .before .before .before .before) in
+    let (listed, valid) = given start in
+    let known = valid .known in
+    let low = known-cheap (listed .ruled .accepted) (listed .bytes) (start .args .search .best) known in
+    let same = price start (given start) in
+    let room = start .pre .2 in
+    let few = known .few in
+    (few, omega arith, omega arith)
 
 same-length : tie.Need-same-length
 same-length c = search needs
@@ -59,20 +91,19 @@ same-length c = search needs
 returns : tie.Need-returns
 returns c =
     let written = c .before .before in
-    let summed = written .before .before .before in
-    let told = summed .before in
-    let counted = told .before in
-    let gathered = counted .before in
+    let set = written .before .before in
+    let told = set .before in
+    let gathered = told .before in
     let start = begun (gathered .before) in
-    let b = start .args .p .now in
     let search = start .args .search in
-    let ruled : Ruled b (start .args .clauses .now) = record { accepted = start .pre .0; clauses = start .pre .2 } in
-    let setting = told .lowest-setting .ensures b ruled (of-named gathered) (counted .modes .ensures)
-    ∙ ap (λ (m : ℕ). lowest (planTerms (planOf b)) (hasBelt b m)) (mask gathered)
-    ∙ lowest-mask (start .pre .0) (search .best) (start .pre .3 .known) in
-    written-best (start .pre .0) search (start .pre .3 .known) _ _ (written .write .result) (start .args .out .now) _
-    (summed .cost .ensures .0)
-    (written .before .before .setting-of .ensures ∙ ap orZero setting)
+    λ b listed valid.
+    let h : Given start b = (listed, valid) in
+    let setting = told .lowest-setting .ensures b (listed .ruled) (of-named gathered h) (modes-are gathered h)
+    ∙ ap (λ (m : ℕ). lowest (planTerms (planOf b)) (hasBelt b m)) (mask gathered h)
+    ∙ lowest-mask (listed .ruled .accepted) (search .best) (valid .known) in
+    written-best (listed .ruled .accepted) search (valid .known) _ _ (written .write .result) (start .args .out .now) _
+    (price start h)
+    (set .setting-of .ensures ∙ ap orZero setting)
     (written .write .ensures .0)
     (written .write .ensures .1)
 
@@ -80,10 +111,10 @@ pub write-best-spec : {M : Type 1} → statement M
 write-best-spec =
     tie.close
     (tie.spec
+    element-copy-out-wide
+    wide-requires
     on-route-requires
-    modes-requires
     lowest-setting-requires
-    cost-requires
     setting-of-requires
     write-requires
     same-length

@@ -2,47 +2,57 @@
 use mathlib.Core.Path.{_≡_, sym, _∙_, ap}
 use mathlib.Core.Option.{Option, none}
 use Prim.Native.Nat.{ℕ}
+use mathlib.Core.List.{List}
 use borrow.Author.Needs.{needs}
 use Rattle.plan.specs.declared.named.Place.{Place}
 use Rattle.plan.specs.Plan.{planOf, named}
-use Rattle.route.specs.Values.{settingIn, subproblemIn, hasBelt, Ruled}
+use Rattle.route.specs.Values.{settingIn, OfNamed, subproblemIn, hasBelt, Ruled}
 use Rattle.search.specs.declared.state.Judged.{Judged}
 use Rattle.search.specs.Branching.{pickOf}
-use Rattle.search.specs.Values.{pickedPlace}
+use Rattle.search.specs.Values.{numbersOf, modesAt, pickedPlace}
 use Rattle.search.specs.Inner.{branchAt, testedAs, judgedIn}
+use Rattle.search.proofs.PrepareNumbers.{numbers-modes}
 use Rattle.search.proofs.state.judge.Statement.{statement}
 use Rattle.search.proofs.state.judge.Tie as tie
 
+-- the plan b is what the arrays are of, and the mask is one of its named belts
+abbrev Given : tie.Start → List ℕ → Type 0
+Given c b = Ruled b (c .args .clauses .now) × (c .args .numbers .now ≡ numbersOf (planOf b)) × OfNamed b (c .args .mask)
+
+given : (c : tie.Start) → Given c (c .pre .0)
+given c = (c .pre .1, c .pre .2, c .pre .3)
+
 -- what is asked for
-abbrev wanted : tie.Start → Judged
-wanted c = judgedIn (c .args .p .now) (c .args .query) (c .args .fixings) (hasBelt (c .args .p .now) (c .args .mask))
+abbrev wanted : tie.Start → List ℕ → Judged
+wanted c b = judgedIn b (c .args .query) (c .args .fixings) (hasBelt b (c .args .mask))
 
 -- the place of the belt picked
-abbrev place : tie.Start → Place
-place c =
-    let b = c .args .p .now in
-    pickedPlace (named (planOf b)) (pickOf (c .args .query .pick) (planOf b) (subproblemIn b (c .args .fixings)) (hasBelt b (c .args .mask)))
+abbrev place : tie.Start → List ℕ → Place
+place c b = pickedPlace (named (planOf b)) (pickOf (c .args .query .pick) (planOf b) (subproblemIn b (c .args .fixings)) (hasBelt b (c .args .mask)))
 
-modes-requires : tie.Need-modes-requires
-modes-requires c κs = search needs
+wide-requires : tie.Need-wide-requires
+wide-requires c κs = search needs
+
+element-copy-out-wide : tie.Need-element-copy-out-wide
+element-copy-out-wide c = search needs
 
 -- where it was asked for
-abbrev begun : tie.After-modes → tie.Start
+abbrev begun : tie.After-wide → tie.Start
 begun c = c .before .before .before
 
-ruled : (c : tie.After-modes) → Ruled (begun c .args .p .now) (begun c .args .clauses .now)
-ruled c = record { accepted = begun c .pre .0; clauses = begun c .pre .1 }
+-- the number of modes
+modes-are : (c : tie.After-wide) {b : List ℕ} → Given (begun c) b → c .wide .result ≡ planOf b .modes
+modes-are c h = c .wide .ensures ∙ ap modesAt (h .1) ∙ numbers-modes (h .0 .accepted)
 
 lowest-setting-requires : tie.Need-lowest-setting-requires
-lowest-setting-requires c κs = (begun c .args .p .now, ruled c, begun c .pre .3, c .modes .ensures)
+lowest-setting-requires c κs = let h = given (begun c) in (begun c .pre .0, h .0, h .2, modes-are c h)
 
 -- it goes by the setting
-by-setting : (c : tie.After-lowest-setting) (o : Option ℕ) → settingIn (c .lowest-setting .result) ≡ o
-    → let start = begun (c .before) in wanted start ≡ testedAs (place start) o
-by-setting c o e =
-    let start = begun (c .before) in
-    let told = c .lowest-setting .ensures (start .args .p .now) (ruled (c .before)) (start .pre .3) (c .before .modes .ensures) in
-    ap (testedAs (place start)) (sym told ∙ e)
+by-setting : (c : tie.After-lowest-setting) {b : List ℕ} → Given (begun (c .before)) b → (o : Option ℕ) → settingIn (c .lowest-setting .result) ≡ o
+    → wanted (begun (c .before)) b ≡ testedAs (place (begun (c .before)) b) o
+by-setting c {b} h o e =
+    let told = c .lowest-setting .ensures b (h .0) (h .2) (modes-are (c .before) h) in
+    ap (testedAs (place (begun (c .before)) b)) (sym told ∙ e)
 
 enum-known-setting : tie.Need-enum-known-setting
 enum-known-setting c = search needs
@@ -51,7 +61,7 @@ enum-told : tie.Need-enum-told
 enum-told c = search needs
 
 picked-requires : tie.Need-picked-requires
-picked-requires c κs = let start = begun (c .before .before .before) in (start .args .p .now, start .pre .0, start .pre .2)
+picked-requires c κs = let start = begun (c .before .before .before) in (start .pre .0, start .pre .1 .accepted, start .pre .2)
 
 enum-known-place : tie.Need-enum-known-place
 enum-known-place c = search needs
@@ -60,27 +70,27 @@ enum-told-2 : tie.Need-enum-told-2
 enum-told-2 c = search needs
 
 returns : tie.Need-returns
-returns c = sym (by-setting (c .before .before .before) _ (ap settingIn (c .before .setting .given .1)))
+returns c = λ b ruled numbers named. sym (by-setting (c .before .before .before) (ruled, numbers, named) _ (ap settingIn (c .before .setting .given .1)))
 
 -- no setting works, so it goes by the belt picked
-by-place : (c : tie.After-picked) (q : Place) → c .picked .result ≡ q
-    → branchAt q ≡ wanted (begun (c .before .before .before .before))
-by-place c q e =
-    let start = begun (c .before .before .before .before) in
-    ap branchAt (sym e ∙ c .picked .ensures (start .args .p .now) (start .pre .0) (start .pre .2))
-    ∙ sym (by-setting (c .before .before .before) none (ap settingIn (c .before .enum-told .given .1)))
+by-place : (c : tie.After-picked) {b : List ℕ} → Given (begun (c .before .before .before .before)) b → (q : Place) → c .picked .result ≡ q
+    → branchAt q ≡ wanted (begun (c .before .before .before .before)) b
+by-place c {b} h q e =
+    ap branchAt (sym e ∙ c .picked .ensures b (h .0 .accepted) (h .1))
+    ∙ sym (by-setting (c .before .before .before) h none (ap settingIn (c .before .enum-told .given .1)))
 
 returns-2 : tie.Need-returns-2
-returns-2 c = by-place (c .before .before .before) _ (c .before .place .given .1)
+returns-2 c = λ b ruled numbers named. by-place (c .before .before .before) (ruled, numbers, named) _ (c .before .place .given .1)
 
 returns-3 : tie.Need-returns-3
-returns-3 c = by-place (c .before .before) _ (c .enum-told2 .given .1)
+returns-3 c = λ b ruled numbers named. by-place (c .before .before) (ruled, numbers, named) _ (c .enum-told2 .given .1)
 
 pub judge-spec : {M : Type 1} → statement M
 judge-spec =
     tie.close
     (tie.spec
-    modes-requires
+    element-copy-out-wide
+    wide-requires
     lowest-setting-requires
     enum-known-setting
     enum-told

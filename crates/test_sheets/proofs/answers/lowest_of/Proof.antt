@@ -4,7 +4,7 @@ use mathlib.Core.Path.{refl, sym, _∙_, ap, subst}
 use mathlib.Core.List.{List}
 use Prim.Native.Nat.{ℕ}
 use Rattle.plan.specs.Bounds.{maxRecords}
-use Rattle.plan.proofs.AdjacencyArcs.{records-few}
+use Rattle.plan.proofs.Reading.{records-few}
 use Rattle.route.specs.Values.{idsOf, OfNamed, gatheredIn}
 use Rattle.route.proofs.RulesNamed.{known-low, route-placeable, mask-named}
 use Rattle.route.proofs.RulesEntries.{ruled-lent}
