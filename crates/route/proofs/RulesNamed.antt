@@ -5,7 +5,6 @@
 --   passes-indexed    the belts of an accepted plan with these indices pass exactly these
 --   known-low         the indices of the belts of a Route of an accepted plan are below maxRecords
 --   route-placeable   they can be looked up
---   mask-named        the mask of some belts is of named belts
 --   met-mask          in an accepted plan the mask of a Route meets the rules that the route meets
 --   lowest-mask       and has its lowest setting; mask-claim: this as it is claimed (MaskClaim)
 --
@@ -28,11 +27,11 @@ use Rattle.plan.proofs.Reading.{belt-of, belt-low}
 use Rattle.route.specs.declared.path.Route.{Route}
 use Rattle.route.specs.Routes.{beltsByIndex}
 use Rattle.route.specs.Permission.{passes, holds, met, allMet, Terms, planTerms, termsOf, works, lowest}
-use Rattle.route.specs.Values.{idsOf, Known, routeIn, LowPlace, OfNamed, namedPlaces, Placeable, maskOf, hasBelt}
+use Rattle.route.specs.Values.{idsOf, Known, routeIn, LowPlace, namedPlaces, Placeable, maskOf, hasBelt}
 use Rattle.route.specs.Claims.{MaskClaim}
 use Rattle.route.proofs.RulesLowest.{find-cong}
 use Rattle.route.proofs.RouteIndices.{indexed-map, passes-indices}
-use Rattle.route.proofs.MaskFixings.{place-low, looked-up, gathered-from, gathered-low}
+use Rattle.route.proofs.MaskFixings.{place-low, looked-up, gathered-from}
 use Rattle.route.proofs.RulesCodes.{literal-named}
 
 -- ---- tests that agree
@@ -58,7 +57,7 @@ module _ {b : List ℕ} (ok : Accepted b) where
   passes-indexed : (es : List ℕ) → ((e : ℕ) → List·Memᴰ e es → IsBelt b e) → (e : ℕ) → passes (beltsByIndex (planOf b) es) e ≡ mem e es
   passes-indexed es h e = passes-indices (beltsByIndex (planOf b) es) e ∙ ap (mem e) (ap indicesOf (indexed-map ok es h) ∙ indices-back b es)
 
-  pub known-low : (r : Route) → Known b r → (e : ℕ) → List·Memᴰ e (idsOf r) → e < maxRecords
+  known-low : (r : Route) → Known b r → (e : ℕ) → List·Memᴰ e (idsOf r) → e < maxRecords
   known-low r k e m = belt-low ok e (k .belts e m) .2
 
   pub route-placeable : (r : Route) → Known b r → {places : List ℕ} → places ≡ namedPlaces b → Placeable places r
@@ -66,9 +65,6 @@ module _ {b : List ℕ} (ok : Accepted b) where
     few = k .few;
     low = λ e m. (known-low r k e m, subst LowPlace (sym (looked-up b e all refl (known-low r k e m))) (place-low ok e));
   }
-
-  pub mask-named : (es : List ℕ) → ((e : ℕ) → List·Memᴰ e es → e < maxRecords) → OfNamed b (maskOf b es)
-  mask-named es low = gathered-low (named-rises b) refl es low
 
   -- the mask tells of each named belt what the route does
   pub mask-belt : (r : Route) → Known b r → (e : ℕ) → List·Memᴰ e (named (planOf b))

@@ -1,8 +1,10 @@
 -- What only the contracts of private functions cite; nothing that a reader has to believe.
 --
 --   Codable places l
---                   literal l has a code: a named belt that can be looked up in the array of places, or a mode up to maxModes
---   isTrue on c     the literal of code c holds, where the mask `on` has the variables that are on
+--                   literal l has a code: a named belt that can be looked up in the array of places, or a mode from 1 to maxModes
+--   LowCoded l      what a code says of a belt has a bit in a mask, and a mode is one from 1 to maxModes
+--   isTrue l belts σ
+--                   what a code says holds, where the mask `belts` has the named belts that are on the route, under the setting σ
 --   stores f l is   the array l with f i at place i, for each i of the list `is`
 --   contentRefusal p trip v
 --                   the first broken one of lines 11 to 14 (sheetBy), or 0, by what a sheet in the form says
@@ -17,7 +19,7 @@
 --
 -- Assumes nothing.
 use Prim.Native.Nat.{ℕ, _/_, _%_, _^_, _≤_, _<_}
-use mathlib.Core.Bool.{Bool, true, false, not, _&&_}
+use mathlib.Core.Bool.{Bool, true, false, not, _&&_, Bool·beq}
 use mathlib.Core.Option.{Option, none, some}
 use mathlib.Core.List.{List, [], _∷_}
 use lib.ListN.{getD, set}
@@ -28,21 +30,28 @@ use Rattle.plan.specs.Plan.{Belt, Plan, indicesOf}
 use Rattle.plan.specs.Words.{wayLimit}
 use Rattle.plan.specs.declared.read.Literal.{Literal}
 use Rattle.plan.specs.declared.read.Literal.the-variants.{OfBelt, OfMode}
+use Rattle.route.specs.declared.clauses.Coded.{Coded}
+use Rattle.route.specs.declared.clauses.Coded.the-variants as coded
 use Rattle.route.specs.declared.sheet.Sheet.{Sheet}
 use Rattle.route.specs.declared.path.Trip.{Trip}
 use Rattle.route.specs.Routes.{connects, cost, beltsByIndex}
-use Rattle.route.specs.Permission.{passes, termsOf, works}
+use Rattle.route.specs.Permission.{passes, isOn, termsOf, works}
 use Rattle.route.specs.Subproblems.{Subproblem, relaxed}
-use Rattle.route.specs.Values.{idsOf}
+use Rattle.route.specs.Values.{idsOf, inMask, LowPlace}
 
 -- ---- clauses
 
 abbrev pub Codable : List ℕ → Literal → Type 0
 Codable places (OfBelt e wanted) = (e .0 < maxRecords) × (1 ≤ getD places (e .0) 0) × (getD places (e .0) 0 ≤ maxNamed)
-Codable places (OfMode m wanted) = m .0 ≤ maxModes
+Codable places (OfMode m wanted) = (1 ≤ m .0) × (m .0 ≤ maxModes)
 
-abbrev pub isTrue : ℕ → ℕ → Bool
-isTrue on c = eqb (on / 2 ^ (c / 2) % 2) (c % 2)
+abbrev pub LowCoded : Coded → Type 0
+LowCoded (coded.Belt q wanted) = LowPlace q
+LowCoded (coded.Mode m wanted) = (1 ≤ m .0) × (m .0 ≤ maxModes)
+
+abbrev pub isTrue : Coded → ℕ → ℕ → Bool
+isTrue (coded.Belt q wanted) belts σ = Bool·beq (inMask belts q) wanted
+isTrue (coded.Mode m wanted) belts σ = Bool·beq (isOn σ (m .0)) wanted
 
 abbrev pub stores : (ℕ → ℕ) → List ℕ → List ℕ → List ℕ
 stores f l [] = l

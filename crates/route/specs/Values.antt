@@ -31,8 +31,10 @@
 --                    its named belts
 --   walkedOf o array
 --                    the array with the indices of the belts of the route o, if there is one, from the first place on
---   codeIn places l  the code of literal l: twice its variable, and 1 more where it is wanted (codeBy). The variable of a belt is its place among
---                    the named belts, as the array of places has it; that of mode m stands m behind the last place (lastPlace)
+--   withBit n t      twice n, and 1 more if t holds
+--   codeIn places l  the code of literal l: twice its variable, and 1 more where it is wanted. The variable of a belt is twice its place among
+--                    the named belts, as the array of places has it; that of a mode is twice its number, and 1 more
+--   codedIn c        what a code says: the place of the belt or the mode, and whether it is wanted (codedBy, by whether it is a mode)
 --   ruleEntry b r    the entry of rule r of the plan b: the next rule, and fieldLimit times its first literal
 --   literalEntry b l the entry of literal l of the plan b: the next literal of its rule, and fieldLimit times its code
 --   entryOf b i      the entry of record i of the plan b: of record 0 the first rule, of a rule and of a literal the above, of any other 0 (entryBy)
@@ -57,7 +59,7 @@ use Rattle.plan.specs.declared.read.Literal.{Literal}
 use Rattle.plan.specs.declared.read.Literal.the-variants.{OfBelt, OfMode}
 use Rattle.plan.specs.declared.named.Place.{Place}
 use Rattle.plan.specs.declared.named.Place.the-variants.{At, Unnamed}
-use Rattle.plan.specs.Bounds.{fieldLimit, maxNamed, maxRecords, maxSteps}
+use Rattle.plan.specs.Bounds.{fieldLimit, maxRecords, maxSteps}
 use Rattle.plan.specs.Lists.{keep, upto}
 use Rattle.plan.specs.Records.{records}
 use Rattle.plan.specs.Plan.{Belt, planOf, literalAt, indicesOf, named, beltId, placeOf, placesOf, placeIn}
@@ -66,6 +68,8 @@ use Rattle.plan.specs.Tables.{Sound, Tabled}
 use Rattle.plan.specs.Reading.{Accepted, Bytes, IsBelt, isRuleAt, isLiteralAt, firstRule, nextRule, firstLiteral, nextLiteral}
 use Rattle.route.specs.declared.path.Route.{Route}
 use Rattle.route.specs.declared.sheet.Sheet.{Sheet}
+use Rattle.route.specs.declared.clauses.Coded.{Coded}
+use Rattle.route.specs.declared.clauses.Coded.the-variants as coded
 use Rattle.route.specs.declared.modes.Lowest.{Lowest}
 use Rattle.route.specs.declared.modes.Lowest.the-variants.{Works, Nothing}
 use Rattle.route.specs.declared.path.Trip.{Trip}
@@ -178,17 +182,20 @@ walkedOf (some r) array = sets array 0 (indicesOf r)
 
 -- ---- clauses
 
-abbrev pub codeBy : ℕ → Bool → ℕ
-codeBy variable true = 2 * variable + 1
-codeBy variable false = 2 * variable
-
--- the highest place that a named belt can have
-abbrev pub lastPlace : ℕ
-lastPlace = maxNamed - 1
+abbrev pub withBit : ℕ → Bool → ℕ
+withBit n true = 2 * n + 1
+withBit n false = 2 * n
 
 abbrev pub codeIn : List ℕ → Literal → ℕ
-codeIn places (OfBelt e wanted) = codeBy (getD places (e .0) 0 - 1) wanted
-codeIn places (OfMode m wanted) = codeBy (lastPlace + m .0) wanted
+codeIn places (OfBelt e wanted) = withBit (withBit (getD places (e .0) 0 - 1) false) wanted
+codeIn places (OfMode m wanted) = withBit (withBit (m .0) true) wanted
+
+abbrev pub codedBy : Bool → ℕ → Bool → Coded
+codedBy true n wanted = coded.Mode (record { 0 = n }) wanted
+codedBy false n wanted = coded.Belt (At n) wanted
+
+abbrev pub codedIn : ℕ → Coded
+codedIn c = codedBy (eqb (c / 2 % 2) 1) (c / 2 / 2) (eqb (c % 2) 1)
 
 abbrev pub ruleEntry : List ℕ → ℕ → ℕ
 ruleEntry b r = nextRule b r + fieldLimit * firstLiteral b r

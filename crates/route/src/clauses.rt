@@ -1,36 +1,41 @@
 // The chains of a plan's rules and literals as numbers, decoded once. By record index: entry 0 is the first rule; the entry of a rule is the next
 // rule, and FIELD times its first literal; the entry of a literal is the next literal of its rule, and FIELD times its code; the rest is 0.
-// A code is twice the literal's variable, and 1 more where it is wanted. The variable of a named belt is its place among the named belts; that of
-// mode m stands m behind LAST_PLACE.
+// A code is twice the literal's variable, and 1 more where it is wanted. The variable of a named belt is twice its place among the named belts;
+// that of a mode is twice its number, and 1 more. What a code says comes out of it as a Coded, in which a belt is a Place and a mode a ModeId.
 use plan::bounds::FIELD_LIMIT;
-use plan::bounds::MAX_NAMED;
 use plan::bounds::MAX_RECORDS;
+use plan::named::Place;
 use plan::read;
 use plan::read::Literal;
+use plan::read::ModeId;
 use plan::read::RuleId;
 ghost use mathlib.Core.Path.{_≡_};
-ghost use Prim.Native.Nat.{_≤_, _<_};
+ghost use Prim.Native.Nat.{_/_, _≤_, _<_};
+ghost use Rattle.plan.specs.Bounds.{fieldLimit};
 ghost use Rattle.plan.specs.Records.{records};
 ghost use lib.ListN.{length, replicate};
 ghost use Rattle.plan.specs.Reading.{Accepted, IsRule, firstLiteral, literalChain};
-ghost use Rattle.route.specs.Values.{namedPlaces, codeBy, codeIn, entryOf, clausesIn};
+ghost use Rattle.route.specs.Values.{namedPlaces, withBit, codeIn, codedIn, entryOf, clausesIn};
 ghost use Rattle.route.specs.Inner.{Codable, stores};
 
 // Record indices are below it.
 pub const FIELD: u32 = FIELD_LIMIT as u32;
 
-// The highest place that a named belt can have.
-const LAST_PLACE: u32 = MAX_NAMED as u32 - 1;
+// A literal as its code has it: the place of its belt among the named belts, or its mode, and whether it is wanted.
+pub enum Coded {
+    Belt(Place, bool),
+    Mode(ModeId, bool),
+}
 
-// The code of a variable, wanted or not.
-fn code(variable: u32, wanted: bool) -> u32
-    requires { ⌜ variable < 64 ⌝ }
-    ensures { λ v. ⌜ v ≡ codeBy variable wanted ⌝ }
+// Twice the number, and 1 more where the bit is set.
+fn with_bit(number: u32, bit: bool) -> u32
+    requires { ⌜ number < 128 ⌝ }
+    ensures { λ v. ⌜ v ≡ withBit number bit ⌝ }
 {
-    if wanted {
-        return 2 * variable + 1;
+    if bit {
+        return 2 * number + 1;
     }
-    2 * variable
+    2 * number
 }
 
 // The code of a literal. `places` are those of the named belts (plan::named::named_places).
@@ -39,9 +44,26 @@ fn code_of(places: &[u8; MAX_RECORDS], literal: Literal) -> u32
     ensures { λ v. ⌜ v ≡ codeIn (now (places .entry)) literal ⌝ }
 {
     match literal {
-        Literal::OfBelt(belt, wanted) => code(places[belt.0 as usize] as u32 - 1, wanted),
-        Literal::OfMode(mode, wanted) => code(LAST_PLACE + mode.0 as u32, wanted),
+        Literal::OfBelt(belt, wanted) => {
+            let place = places[belt.0 as usize] as u32 - 1;
+            with_bit(with_bit(place, false), wanted)
+        }
+        Literal::OfMode(mode, wanted) => with_bit(with_bit(mode.0 as u32, true), wanted),
     }
+}
+
+// What the code in the entry of a literal says.
+pub fn coded_of(entry: u32) -> Coded
+    ensures { λ v. ⌜ v ≡ codedIn (entry / fieldLimit) ⌝ }
+{
+    let code = entry / FIELD;
+    let wanted = code % 2 == 1;
+    let variable = code / 2;
+    let number = variable / 2;
+    if variable % 2 == 1 {
+        return Coded::Mode(ModeId(number as u16), wanted);
+    }
+    Coded::Belt(Place::At(number as usize), wanted)
 }
 
 // Stores the entries of a rule's literals in the array, which has one for each record.

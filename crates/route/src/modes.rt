@@ -8,7 +8,7 @@ ghost use Rattle.plan.specs.Bounds.{maxModes};
 ghost use Rattle.plan.specs.Lists.{iota};
 ghost use Rattle.plan.specs.Plan.{planOf};
 ghost use Rattle.route.specs.Permission.{allMet, find, planTerms, lowest};
-ghost use Rattle.route.specs.Values.{settingIn, OfNamed, hasBelt, Ruled};
+ghost use Rattle.route.specs.Values.{settingIn, hasBelt, Ruled};
 
 // The lowest setting that works, or that none does.
 pub enum Lowest {
@@ -21,12 +21,10 @@ pub enum Lowest {
 fn settle(clauses: &[u32], belts: u64, mode: ModeId, setting: u16) -> Lowest
     requires { ⌜ ((b : List ℕ)
         × Ruled b (now clauses)
-        × OfNamed b belts
         × (mode .0 ≤ maxModes)
         × (setting + 2 ^ mode .0 ≤ 2 ^ maxModes)) ⌝ }
     ensures { λ v. ⌜ ((b : List ℕ)
         → Ruled b (now (clauses .entry))
-        → OfNamed b belts
         → settingIn v ≡ find (allMet (planOf b .rules) (hasBelt b belts)) (iota setting (2 ^ mode .0))) ⌝ }
 {
     if mode.0 == 0 {
@@ -44,13 +42,11 @@ fn settle(clauses: &[u32], belts: u64, mode: ModeId, setting: u16) -> Lowest
 fn try_both(clauses: &[u32], belts: u64, mode: ModeId, setting: u16) -> Lowest
     requires { ⌜ ((b : List ℕ)
         × Ruled b (now clauses)
-        × OfNamed b belts
         × (1 ≤ mode .0)
         × (mode .0 ≤ maxModes)
         × (setting + 2 ^ mode .0 ≤ 2 ^ maxModes)) ⌝ }
     ensures { λ v. ⌜ ((b : List ℕ)
         → Ruled b (now (clauses .entry))
-        → OfNamed b belts
         → settingIn v ≡ find (allMet (planOf b .rules) (hasBelt b belts)) (iota setting (2 ^ mode .0))) ⌝ }
 {
     let lower = mode.0 - 1;
@@ -67,11 +63,9 @@ fn try_both(clauses: &[u32], belts: u64, mode: ModeId, setting: u16) -> Lowest
 pub fn lowest_setting(modes: usize, clauses: &[u32], belts: u64) -> Lowest
     requires { ⌜ ((b : List ℕ)
         × Ruled b (now clauses)
-        × OfNamed b belts
         × (modes ≡ planOf b .modes)) ⌝ }
     ensures { λ v. ⌜ ((b : List ℕ)
         → Ruled b (now (clauses .entry))
-        → OfNamed b belts
         → modes ≡ planOf b .modes
         → settingIn v ≡ lowest (planTerms (planOf b)) (hasBelt b belts)) ⌝ }
 {

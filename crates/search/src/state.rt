@@ -23,7 +23,7 @@ ghost use lib.ListN.{length, replicate};
 ghost use Rattle.plan.specs.Bounds.{maxSteps};
 ghost use Rattle.plan.specs.Plan.{planOf};
 ghost use Rattle.plan.specs.declared.named.Place.the-variants.{At};
-ghost use Rattle.route.specs.Values.{OfNamed, hasBelt, Ruled};
+ghost use Rattle.route.specs.Values.{hasBelt, Ruled};
 ghost use Rattle.route.specs.Ways.{wayPlaces};
 ghost use Rattle.search.specs.Values.{numbersOf, turnIn, Valid, isHeld, firstSearch, noFixings, Ready, stepIn, walkedIn};
 ghost use Rattle.search.specs.Inner.{endedAs, childAt, judgedIn};
@@ -117,12 +117,10 @@ fn judge(
 ) -> Judged
     requires { ⌜ ((b : List ℕ)
         × Ruled b (now clauses)
-        × (now numbers ≡ numbersOf (planOf b))
-        × OfNamed b mask) ⌝ }
+        × (now numbers ≡ numbersOf (planOf b))) ⌝ }
     ensures { λ v. ⌜ ((b : List ℕ)
         → Ruled b (now (clauses .entry))
         → now (numbers .entry) ≡ numbersOf (planOf b)
-        → OfNamed b mask
         → v ≡ judgedIn b query fixings (hasBelt b mask)) ⌝ }
 {
     let setting = modes::lowest_setting(words::wide(numbers[words::MODES]), clauses, mask);

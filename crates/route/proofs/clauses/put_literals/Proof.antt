@@ -53,7 +53,7 @@ code-of-requires : tie.Need-code-of-requires Inv-loop μ-loop
 code-of-requires c κs = codable c
 
 -- which is low
-code-low : (c : tie.After-code-of Inv-loop μ-loop) → c .code-of .result < 128
+code-low : (c : tie.After-code-of Inv-loop μ-loop) → c .code-of .result < 256
 code-low c =
     let said = c .before in
     let start = said .before .before .before .before .before .before .before in

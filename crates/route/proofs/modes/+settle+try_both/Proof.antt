@@ -52,7 +52,7 @@ settle-all-met-requires : (t : ℕ) → settle-lts.Need-all-met-requires (
   try-both-below t,
   try-both.Post,
 ) (settle-at t) settle.Post
-settle-all-met-requires t c κs = let h = c .before .before .before .pre .1 in (h .0, h .1, h .2)
+settle-all-met-requires t c κs = let h = c .before .before .before .pre .1 in (h .0, h .1)
 
 settle-try-both-requires : (t : ℕ) → settle-lts.Need-try-both-requires (
   all-met-reads.Asked,
@@ -62,7 +62,7 @@ settle-try-both-requires : (t : ℕ) → settle-lts.Need-try-both-requires (
 ) (settle-at t) settle.Post
 settle-try-both-requires t c κs =
     let h = c .before .before .before .pre .1 in
-    (omega arith, (h .0, h .1, h .2, omega arith, h .3, h .4))
+    (omega arith, (h .0, h .1, omega arith, h .2, h .3))
 
 settle-returns : (t : ℕ) → settle-lts.Need-returns (
   all-met-reads.Asked,
@@ -73,8 +73,8 @@ settle-returns : (t : ℕ) → settle-lts.Need-returns (
 settle-returns t c =
     let start = c .before .before .before .before .before in
     let a = start .args in
-    λ b ruled named.
-    let tested = sym (c .before .all-met .ensures b ruled named) ∙ c .if2 .taken in
+    λ b ruled.
+    let tested = sym (c .before .all-met .ensures b ruled) ∙ c .if2 .taken in
     sym (settle-none (works b (a .belts)) (a .mode .0) (a .setting) (c .before .before .if1 .taken) true tested)
 
 settle-returns-2 : (t : ℕ) → settle-lts.Need-returns-2 (
@@ -86,8 +86,8 @@ settle-returns-2 : (t : ℕ) → settle-lts.Need-returns-2 (
 settle-returns-2 t c =
     let start = c .before .before .before .before .before in
     let a = start .args in
-    λ b ruled named.
-    let tested = sym (c .before .all-met .ensures b ruled named) ∙ c .if2 .left in
+    λ b ruled.
+    let tested = sym (c .before .all-met .ensures b ruled) ∙ c .if2 .left in
     sym (settle-none (works b (a .belts)) (a .mode .0) (a .setting) (c .before .before .if1 .taken) false tested)
 
 settle-returns-3 : (t : ℕ) → settle-lts.Need-returns-3 (
@@ -101,12 +101,12 @@ settle-returns-3 t c = c .try-both .ensures
 try-both-sub-lower :
     (t : ℕ) →
     try-both-lts.Need-sub-lower (settle-below t, settle.Post) (try-both-at t) try-both.Post
-try-both-sub-lower t c = let start = c .before .before in omega (arith, start .pre .1 .3)
+try-both-sub-lower t c = let start = c .before .before in omega (arith, start .pre .1 .2)
 
 try-both-shl-with-mode :
     (t : ℕ) →
     try-both-lts.Need-shl-with-mode (settle-below t, settle.Post) (try-both-at t) try-both.Post
-try-both-shl-with-mode t c = let start = c .before .before in omega (arith, start .pre .1 .4)
+try-both-shl-with-mode t c = let start = c .before .before in omega (arith, start .pre .1 .3)
 
 try-both-add-with-mode :
     (t : ℕ) →
@@ -115,7 +115,7 @@ try-both-add-with-mode t c =
     let start = c .before .before in
     let m = start .args .mode .0 in
     let h = start .pre .1 in
-    omega (arith, h .5, halves m (h .3), weight m (h .4))
+    omega (arith, h .4, halves m (h .2), weight m (h .3))
 
 try-both-settle-requires : (t : ℕ) → try-both-lts.Need-settle-requires (
   settle-below t,
@@ -125,7 +125,7 @@ try-both-settle-requires t c κs =
     let start = c .before .before in
     let m = start .args .mode .0 in
     let h = start .pre .1 in
-    (omega (arith, h .3), (h .0, h .1, h .2, omega (arith, h .4), omega (arith, h .5, halves m (h .3))))
+    (omega (arith, h .2), (h .0, h .1, omega (arith, h .3), omega (arith, h .4, halves m (h .2))))
 
 try-both-enum-known-off :
     (t : ℕ) →
@@ -145,7 +145,7 @@ try-both-settle-requires-2 t c κs =
     let start = c .before .before .before .before .before in
     let m = start .args .mode .0 in
     let h = start .pre .1 in
-    (omega (arith, h .3), (h .0, h .1, h .2, omega (arith, h .4), omega (arith, h .5, halves m (h .3), weight m (h .4))))
+    (omega (arith, h .2), (h .0, h .1, omega (arith, h .3), omega (arith, h .4, halves m (h .2), weight m (h .3))))
 
 try-both-returns :
     (t : ℕ) →
@@ -154,11 +154,11 @@ try-both-returns t c =
     let start = c .before .before .before .before .before .before in
     let a = start .args in
     let m = a .mode .0 in
-    λ b ruled named.
+    λ b ruled.
     let f = works b (a .belts) in
     let on-half = find f (iota (a .setting + 2 ^ (m - 1)) (2 ^ (m - 1))) in
-    sym (settle-both f m (a .setting) (start .pre .1 .3)
-    ∙ ap (λ (o : Option ℕ). otherwise o on-half) (sym (c .before .before .before .settle .ensures b ruled named) ∙ ap settingIn (c .before .off .given .1)))
+    sym (settle-both f m (a .setting) (start .pre .1 .2)
+    ∙ ap (λ (o : Option ℕ). otherwise o on-half) (sym (c .before .before .before .settle .ensures b ruled) ∙ ap settingIn (c .before .off .given .1)))
 
 try-both-returns-2 :
     (t : ℕ) →
@@ -167,13 +167,13 @@ try-both-returns-2 t c =
     let start = c .before .before .before .before .before .before in
     let a = start .args in
     let m = a .mode .0 in
-    λ b ruled named.
+    λ b ruled.
     let f = works b (a .belts) in
     let on-half = find f (iota (a .setting + 2 ^ (m - 1)) (2 ^ (m - 1))) in
-    c .settle2 .ensures b ruled named
-    ∙ ap (λ (w : ℕ). find f (iota (a .setting + w) (2 ^ (m - 1)))) (weight m (start .pre .1 .4))
-    ∙ sym (settle-both f m (a .setting) (start .pre .1 .3)
-    ∙ ap (λ (o : Option ℕ). otherwise o on-half) (sym (c .before .before .before .settle .ensures b ruled named) ∙ ap settingIn (c .before .enum-told .given .1)))
+    c .settle2 .ensures b ruled
+    ∙ ap (λ (w : ℕ). find f (iota (a .setting + w) (2 ^ (m - 1)))) (weight m (start .pre .1 .3))
+    ∙ sym (settle-both f m (a .setting) (start .pre .1 .2)
+    ∙ ap (λ (o : Option ℕ). otherwise o on-half) (sym (c .before .before .before .settle .ensures b ruled) ∙ ap settingIn (c .before .enum-told .given .1)))
 
 pub +settle+try-both-spec : {M : Type 1} → statement M
 +settle+try-both-spec = close μ-settle μ-try-both (λ t. settle-lts.spec (

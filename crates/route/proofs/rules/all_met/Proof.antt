@@ -1,8 +1,9 @@
 -- `route::rules::all_met` meets its contract. Invariants, for every plan that has these clauses: testing the rules from `next` on gives the same
 -- result as testing all, and so do the literals from `literal` on for their rule. Assumes nothing.
-use mathlib.Core.Path.{_≡_, sym, ap, _∙_}
+use mathlib.Core.Path.{_≡_, sym, ap, subst, _∙_}
 use Prim.Native.Nat.{ℕ, _/_, _%_, _<_}
 use native.Mathlib.Omega.{arith}
+use borrow.Author.Needs.{needs}
 use mathlib.Core.List.{List}
 use lib.ListN.{getD}
 use Rattle.plan.specs.Records.{records}
@@ -11,39 +12,31 @@ use Rattle.plan.specs.Plan.{literalAt}
 use Rattle.plan.specs.Reading.{IsRule, IsLiteral, nextRule, firstLiteral, nextLiteral, literalsFrom}
 use Rattle.plan.proofs.Reading.{records-more, rule-low, literal-low}
 use Rattle.route.specs.Permission.{holds, met}
-use Rattle.route.specs.Values.{OfNamed, namedPlaces, hasBelt, codeIn, Ruled}
-use Rattle.route.specs.Inner.{isTrue}
-use Rattle.route.proofs.RulesCodes.{assigned, assigned-fits, codable-low, literal-codable, literal-true}
+use Rattle.route.specs.declared.clauses.Coded.{Coded}
+use Rattle.route.specs.Values.{namedPlaces, hasBelt, codeIn, codedIn, Ruled}
+use Rattle.route.specs.Inner.{LowCoded, isTrue}
+use Rattle.route.proofs.RulesCodes.{coded-low, literal-codable, literal-true}
 use Rattle.route.proofs.RulesScan as ahead
 use Rattle.route.proofs.RulesEntries.{first-entry, rule-parts, literal-parts}
 use Rattle.route.proofs.rules.all_met.Statement.{statement}
 use Rattle.route.proofs.rules.all_met.Tie as tie
 
--- a plan that has these clauses, and the belts of this mask
-abbrev Of : List ℕ → ℕ → Type 0
-Of clauses belts = (b : List ℕ) × Ruled b clauses × OfNamed b belts
+-- a plan that has these clauses
+abbrev Of : List ℕ → Type 0
+Of clauses = (b : List ℕ) × Ruled b clauses
 
 abbrev Inv-loop : tie.InvT-loop
-Inv-loop clauses belts setting on next rule literal₀ literal =
-    (w : Of clauses belts) → ahead.LiteralsAhead (w .0) (hasBelt (w .0) belts) setting literal₀ literal
+Inv-loop clauses belts setting next rule literal₀ literal =
+    (w : Of clauses) → ahead.LiteralsAhead (w .0) (hasBelt (w .0) belts) setting literal₀ literal
 
 abbrev μ-loop : tie.MeasureT-loop
-μ-loop clauses belts setting on next rule literal₀ literal = ahead.above literal
+μ-loop clauses belts setting next rule literal₀ literal = ahead.above literal
 
 abbrev Inv-rules : tie.InvT-rules
-Inv-rules clauses belts setting on next₀ next = (w : Of clauses belts) → ahead.RulesAhead (w .0) (hasBelt (w .0) belts) setting next
+Inv-rules clauses belts setting next₀ next = (w : Of clauses) → ahead.RulesAhead (w .0) (hasBelt (w .0) belts) setting next
 
 abbrev μ-rules : tie.MeasureT-rules
-μ-rules clauses belts setting on next₀ next = ahead.above next
-
-mul-on : tie.Need-mul-on Inv-loop μ-loop Inv-rules μ-rules
-mul-on c = omega arith
-
-add-on : tie.Need-add-on Inv-loop μ-loop Inv-rules μ-rules
-add-on c =
-    let start = c .before in
-    let w = start .pre in
-    omega (arith, assigned-fits (w .1 .accepted) (w .2) (start .args .setting) (omega arith))
+μ-rules clauses belts setting next₀ next = ahead.above next
 
 shared-slice-read-next : tie.Need-shared-slice-read-next Inv-loop μ-loop Inv-rules μ-rules
 shared-slice-read-next c =
@@ -60,7 +53,7 @@ abbrev begun : tie.In-rules Inv-loop μ-loop Inv-rules μ-rules → tie.Start In
 begun c = c .before .before .before .before
 
 abbrev OfTurn : tie.In-rules Inv-loop μ-loop Inv-rules μ-rules → Type 0
-OfTurn c = let a = begun c .args in Of (a .clauses .now) (a .belts)
+OfTurn c = Of (begun c .args .clauses .now)
 
 -- the rule of a turn
 rule-is : (c : tie.In-rules Inv-loop μ-loop Inv-rules μ-rules) (w : OfTurn c) → IsRule (w .0) (c .before .rules .next)
@@ -128,34 +121,42 @@ halves : (c : tie.In-loop Inv-loop μ-loop Inv-rules μ-rules) (w : OfTurn (oute
     (getD cs l 0 % fieldLimit ≡ nextLiteral (w .0) l) × (getD cs l 0 / fieldLimit ≡ codeIn (namedPlaces (w .0)) (literalAt (w .0) l))
 halves c w = literal-parts (w .1 .accepted) (w .1 .clauses) (c .before .loop .literal) (literal-is c w)
 
-is-true-requires : tie.Need-is-true-requires Inv-loop μ-loop Inv-rules μ-rules
-is-true-requires c κs =
-    let round = c .before in
+coded-of-requires : tie.Need-coded-of-requires Inv-loop μ-loop Inv-rules μ-rules
+coded-of-requires c κs = search needs
+
+-- what its code says
+told : (c : tie.After-coded-of Inv-loop μ-loop Inv-rules μ-rules) (w : OfTurn (outer (c .before .before)))
+    → c .coded-of .result ≡ codedIn (codeIn (namedPlaces (w .0)) (literalAt (w .0) (c .before .before .before .loop .literal)))
+told c w = c .coded-of .ensures ∙ ap codedIn (halves (c .before .before) w .1)
+
+holds-requires : tie.Need-holds-requires Inv-loop μ-loop Inv-rules μ-rules
+holds-requires c κs =
+    let round = c .before .before in
     let w = begun (outer round) .pre in
     let l = round .before .loop .literal in
-    omega
-    (arith, halves round w .1, codable-low (namedPlaces (w .0)) (literalAt (w .0) l) (literal-codable (w .1 .accepted) l (literal-is round w)))
+    subst LowCoded (sym (told c w))
+    (coded-low (namedPlaces (w .0)) (literalAt (w .0) l) (literal-codable (w .1 .accepted) l (literal-is round w)))
 
--- whether it holds is what its code says
-said : (c : tie.After-is-true Inv-loop μ-loop Inv-rules μ-rules) (w : OfTurn (outer (c .before .before))) →
-    let a = begun (outer (c .before .before)) .args in
-    holds (hasBelt (w .0) (a .belts)) (a .setting) (literalAt (w .0) (c .before .before .before .loop .literal)) ≡ c .is-true .result
+-- whether it holds is whether that is true
+said : (c : tie.After-holds Inv-loop μ-loop Inv-rules μ-rules) (w : OfTurn (outer (c .before .before .before))) →
+    let a = begun (outer (c .before .before .before)) .args in
+    holds (hasBelt (w .0) (a .belts)) (a .setting) (literalAt (w .0) (c .before .before .before .before .loop .literal)) ≡ c .holds .result
 said c w =
-    let round = c .before .before in
+    let round = c .before .before .before in
     let a = begun (outer round) .args in
-    sym (literal-true (w .1 .accepted) (w .2) (a .setting) (round .before .loop .literal) (literal-is round w))
-    ∙ ap (isTrue (assigned (a .belts) (a .setting))) (sym (halves round w .1))
-    ∙ sym (c .is-true .ensures)
+    sym (literal-true (w .1 .accepted) (a .belts) (a .setting) (round .before .loop .literal) (literal-is round w))
+    ∙ ap (λ (l : Coded). isTrue l (a .belts) (a .setting)) (sym (told (c .before) w))
+    ∙ sym (c .holds .ensures)
 
 rules-less : tie.Need-rules-less Inv-loop μ-loop Inv-rules μ-rules
 rules-less c =
-    let turn = outer (c .before .before .before) in
+    let turn = outer (c .before .before .before .before) in
     let w = begun turn .pre in
     ahead.rule-rises (w .1 .accepted) (turn .before .rules .next) (rule-is turn w) _ (parts turn w .0)
 
 rules-again : tie.Need-rules-again Inv-loop μ-loop Inv-rules μ-rules
 rules-again c =
-    let round = c .before .before .before in
+    let round = c .before .before .before .before in
     let inner = round .before in
     let turn = outer round in
     let at = turn .before in
@@ -170,13 +171,13 @@ rules-again c =
 
 loop-less : tie.Need-loop-less Inv-loop μ-loop Inv-rules μ-rules
 loop-less c =
-    let round = c .before .before .before in
+    let round = c .before .before .before .before in
     let w = begun (outer round) .pre in
     ahead.literal-rises (w .1 .accepted) (round .before .loop .literal) (literal-is round w) _ (halves round w .0)
 
 loop-again : tie.Need-loop-again Inv-loop μ-loop Inv-rules μ-rules
 loop-again c =
-    let round = c .before .before .before in
+    let round = c .before .before .before .before in
     let inner = round .before in
     let a = begun (outer round) .args in
     λ w.
@@ -190,8 +191,8 @@ returns c =
     let at = turn .before in
     let a = begun turn .args in
     let σ = a .setting in
-    λ b ruled named.
-    let w : Of (a .clauses .now) (a .belts) = (b, ruled, named) in
+    λ b ruled.
+    let w : Of (a .clauses .now) = (b, ruled) in
     let ok = ruled .accepted in
     let on = hasBelt b (a .belts) in
     let missed = ahead.literals-done ok on σ _ (inner .loop .literal) (inner .loop .inv w) (c .loop-test .left) in
@@ -202,8 +203,8 @@ returns-2 : tie.Need-returns-2 Inv-loop μ-loop Inv-rules μ-rules
 returns-2 c =
     let at = c .before in
     let a = at .before .before .before .args in
-    λ b ruled named.
-    ahead.rules-done (ruled .accepted) (hasBelt b (a .belts)) (a .setting) (at .rules .next) (at .rules .inv (b, ruled, named)) (c .rules-test .left)
+    λ b ruled.
+    ahead.rules-done (ruled .accepted) (hasBelt b (a .belts)) (a .setting) (at .rules .next) (at .rules .inv (b, ruled)) (c .rules-test .left)
 
 pub all-met-spec : {M : Type 1} → statement M
 all-met-spec =
@@ -213,8 +214,6 @@ all-met-spec =
     μ-loop
     Inv-rules
     μ-rules
-    mul-on
-    add-on
     shared-slice-read-next
     rules-holds
     cast-rule
@@ -224,7 +223,8 @@ all-met-spec =
     cast-entry
     mul-entry
     shared-slice-read-entry
-    is-true-requires
+    coded-of-requires
+    holds-requires
     rules-less
     rules-again
     loop-less

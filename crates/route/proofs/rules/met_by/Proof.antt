@@ -1,5 +1,5 @@
 -- `route::rules::met_by` meets its contract: the mask of the route meets the rules that the route meets. Assumes nothing.
-use mathlib.Core.Path.{_≡_, refl, sym, ap, _∙_, subst}
+use mathlib.Core.Path.{_≡_, refl, ap, _∙_}
 use Prim.Native.Nat.{ℕ}
 use mathlib.Core.List.{List}
 use borrow.Author.Needs.{needs}
@@ -7,8 +7,8 @@ use Rattle.plan.specs.Bounds.{maxRecords}
 use Rattle.plan.specs.Plan.{planOf}
 use Rattle.plan.proofs.Reading.{records-few}
 use Rattle.route.specs.Permission.{allMet}
-use Rattle.route.specs.Values.{idsOf, OfNamed, gatheredIn, maskOf, hasBelt}
-use Rattle.route.proofs.RulesNamed.{known-low, route-placeable, mask-named, met-mask}
+use Rattle.route.specs.Values.{idsOf, gatheredIn, maskOf, hasBelt}
+use Rattle.route.proofs.RulesNamed.{route-placeable, met-mask}
 use Rattle.route.proofs.RulesEntries.{ruled-lent}
 use Rattle.route.proofs.rules.met_by.Statement.{statement}
 use Rattle.route.proofs.rules.met_by.Tie as tie
@@ -47,19 +47,11 @@ masked c =
     let decoded = c .before .before .before .before in
     c .on-route .ensures ∙ ap (λ (ps : List ℕ). gatheredIn ps 0 (idsOf (begun decoded .args .route))) (made decoded .named-places .ensures)
 
--- which is of named belts
-of-named : (c : tie.After-on-route) → OfNamed (begun (c .before .before .before .before) .args .p .now) (c .on-route .result)
-of-named c =
-    let start = begun (c .before .before .before .before) in
-    let route = start .args .route in
-    let low = known-low (start .pre .0) route (start .pre .1) in
-    subst (OfNamed (start .args .p .now)) (sym (masked c)) (mask-named (start .pre .0) (idsOf route) low)
-
 all-met-requires : tie.Need-all-met-requires
 all-met-requires c κs =
     let decoded = c .before .before .before .before in
     let start = begun decoded in
-    (start .args .p .now, ruled-lent (start .pre .0) maxRecords (records-few (start .pre .0) .0) (decoded .decode .ensures), of-named c)
+    (start .args .p .now, ruled-lent (start .pre .0) maxRecords (records-few (start .pre .0) .0) (decoded .decode .ensures))
 
 returns : tie.Need-returns
 returns c =
@@ -68,7 +60,7 @@ returns c =
     let p = start .args .p .now in
     let σ = start .args .setting in
     let ruled = ruled-lent (start .pre .0) maxRecords (records-few (start .pre .0) .0) (decoded .decode .ensures) in
-    c .all-met .ensures p ruled (of-named (c .before))
+    c .all-met .ensures p ruled
     ∙ ap (λ (m : ℕ). allMet (planOf p .rules) (hasBelt p m) σ) (masked (c .before))
     ∙ met-mask (start .pre .0) (start .args .route) (start .pre .1) σ
 

@@ -1,18 +1,17 @@
 -- `entry::write_best` meets its contract: the sheet is that of the best route, its cost and its lowest setting. Assumes nothing.
-use mathlib.Core.Path.{_≡_, sym, _∙_, ap, subst}
+use mathlib.Core.Path.{_≡_, _∙_, ap}
 use Prim.Native.Nat.{ℕ, _<_}
 use mathlib.Core.Bool.{Bool}
 use mathlib.Core.List.{List}
 use native.Mathlib.Omega.{arith}
 use borrow.Author.Needs.{needs}
 use Rattle.plan.specs.Plan.{planOf}
-use Rattle.plan.specs.Reading.{Accepted}
 use Rattle.route.specs.declared.path.Route.{Route}
 use Rattle.route.specs.Routes.{cost}
 use Rattle.route.specs.Permission.{planTerms, lowest}
-use Rattle.route.specs.Values.{idsOf, routeIn, OfNamed, gatheredIn, maskOf, hasBelt}
+use Rattle.route.specs.Values.{idsOf, routeIn, gatheredIn, maskOf, hasBelt}
 use Rattle.route.proofs.RouteIndices.{known-cheap}
-use Rattle.route.proofs.RulesNamed.{known-low, route-placeable, mask-named, lowest-mask}
+use Rattle.route.proofs.RulesNamed.{route-placeable, lowest-mask}
 use Rattle.search.specs.Answers.{orZero}
 use Rattle.search.specs.Values.{bestIn, boundOf, Valid}
 use Rattle.search.specs.Inner.{Listed}
@@ -47,16 +46,9 @@ module _ (c : tie.After-on-route) {b : List ℕ} (h : Given (begun (c .before)) 
   abbrev best : Route
   best = begun (c .before) .args .search .best
 
-  abbrev ok : Accepted b
-  ok = h .0 .ruled .accepted
-
   -- the mask is that of the best route
   mask : c .on-route .result ≡ maskOf b (idsOf best)
   mask = c .on-route .ensures ∙ ap (λ (ps : List ℕ). gatheredIn ps 0 (idsOf best)) (h .0 .placed)
-
-  -- so it is of named belts
-  of-named : OfNamed b (c .on-route .result)
-  of-named = subst (OfNamed b) (sym mask) (mask-named ok (idsOf best) (known-low ok best (h .1 .known)))
 
   modes-are : c .before .wide .result ≡ planOf b .modes
   modes-are = c .before .wide .ensures ∙ h .0 .modes
@@ -65,7 +57,7 @@ lowest-setting-requires : tie.Need-lowest-setting-requires
 lowest-setting-requires c κs =
     let start = begun (c .before) in
     let h = given start in
-    (start .pre .0 .0, h .0 .ruled, of-named c h, modes-are c h)
+    (start .pre .0 .0, h .0 .ruled, modes-are c h)
 
 setting-of-requires : tie.Need-setting-of-requires
 setting-of-requires c κs = search needs
@@ -98,7 +90,7 @@ returns c =
     let search = start .args .search in
     λ b listed valid.
     let h : Given start b = (listed, valid) in
-    let setting = told .lowest-setting .ensures b (listed .ruled) (of-named gathered h) (modes-are gathered h)
+    let setting = told .lowest-setting .ensures b (listed .ruled) (modes-are gathered h)
     ∙ ap (λ (m : ℕ). lowest (planTerms (planOf b)) (hasBelt b m)) (mask gathered h)
     ∙ lowest-mask (listed .ruled .accepted) (search .best) (valid .known) in
     written-best (listed .ruled .accepted) search (valid .known) _ _ (written .write .result) (start .args .out .now) _

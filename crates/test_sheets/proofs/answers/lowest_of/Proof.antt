@@ -1,12 +1,9 @@
--- `lowest_of`: the mask of a known route is of named belts.
+-- `lowest_of`: the belts of a known route can be looked up, and the clauses are those of the plan.
 use borrow.Author.Needs.{needs}
-use mathlib.Core.Path.{refl, sym, _∙_, ap, subst}
-use mathlib.Core.List.{List}
-use Prim.Native.Nat.{ℕ}
+use mathlib.Core.Path.{refl}
 use Rattle.plan.specs.Bounds.{maxRecords}
 use Rattle.plan.proofs.Reading.{records-few}
-use Rattle.route.specs.Values.{idsOf, OfNamed, gatheredIn}
-use Rattle.route.proofs.RulesNamed.{known-low, route-placeable, mask-named}
+use Rattle.route.proofs.RulesNamed.{route-placeable}
 use Rattle.route.proofs.RulesEntries.{ruled-lent}
 use Rattle.test_sheets.proofs.answers.lowest_of.Statement.{statement}
 use Rattle.test_sheets.proofs.answers.lowest_of.Tie as tie
@@ -45,17 +42,10 @@ slice-aggregate-lowest-setting c = search needs
 lowest-setting-requires : tie.Need-lowest-setting-requires
 lowest-setting-requires c κs =
     let counted = c .before in
-    let gathered = counted .before in
-    let decoded = gathered .before .before .before in
+    let decoded = counted .before .before .before .before in
     let start = begun decoded in
-    let es = idsOf (start .args .r) in
-    let mask = gathered .on-route .ensures ∙ ap (λ (ps : List ℕ). gatheredIn ps 0 es) (made decoded .named-places .ensures) in
-    let low = known-low (start .pre .0) (start .args .r) (start .pre .1) in (
-      start .args .p .now,
-      ruled-lent (start .pre .0) maxRecords (records-few (start .pre .0) .0) (decoded .decode .ensures),
-      subst (OfNamed (start .args .p .now)) (sym mask) (mask-named (start .pre .0) es low),
-      counted .modes .ensures,
-    )
+    let ok = start .pre .0 in
+    (start .args .p .now, ruled-lent ok maxRecords (records-few ok .0) (decoded .decode .ensures), counted .modes .ensures)
 
 returns : tie.Need-returns
 returns c = search needs

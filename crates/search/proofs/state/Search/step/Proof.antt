@@ -19,10 +19,9 @@ use Rattle.route.specs.declared.relax.Summary.{Summary}
 use Rattle.route.specs.Routes.{lower}
 use Rattle.route.specs.Permission.{passes}
 use Rattle.route.specs.Subproblems.{relaxed}
-use Rattle.route.specs.Values.{idsOf, Known, routeIn, OfNamed, subproblemIn, atMost, summaryAs, walkedOf, firstBelts}
+use Rattle.route.specs.Values.{Known, routeIn, subproblemIn, atMost, summaryAs, walkedOf, firstBelts}
 use Rattle.route.proofs.RouteOrder.{lower-known}
 use Rattle.route.proofs.RelaxBound.{walked-size}
-use Rattle.route.proofs.RulesNamed.{known-low, mask-named}
 use Rattle.search.specs.declared.query.Query.{Query}
 use Rattle.search.specs.declared.state.Search.{Search}
 use Rattle.search.specs.declared.state.Ending.{Ending}
@@ -318,23 +317,17 @@ module _ (c : tie.Then4) {b : List ℕ} (h : Given (start (met (c .before))) b) 
   better-on : OnRoute b (summed (c .before) .relaxed-route .result .named) (route (c .before) h)
   better-on = held-on (summed (c .before)) h better-held .0
 
-  better-named : OfNamed b (summed (c .before) .relaxed-route .result .named)
-  better-named =
-      let ok = h .0 .prepared .accepted in
-      let r = route (c .before) h in
-      subst (OfNamed b) (sym (better-on .mask)) (mask-named ok (idsOf r) (known-low ok r (better-on .known)))
-
 judge-requires : tie.Need-judge-requires
 judge-requires c κs =
     let h = given (met (c .before)) in
-    (plan (met (c .before)), prepared-ruled (h .0 .prepared), h .0 .prepared .numbered, better-named c h)
+    (plan (met (c .before)), prepared-ruled (h .0 .prepared), h .0 .prepared .numbered)
 
 settles-better : (c : tie.After-judge) {b : List ℕ} (h : Given (start (met (c .before .before))) b) → Settled (c .before .before) h (c .judge .result)
 settles-better c {b} h =
     let at = c .before .before in
     let from = met at in
     let ruled = prepared-ruled (h .0 .prepared) in
-    let is = c .judge .ensures b ruled (h .0 .prepared .numbered) (better-named (c .before) h) in
+    let is = c .judge .ensures b ruled (h .0 .prepared .numbered) in
     let same = judged-same (ruled .accepted) (start from .args .query) (newestOf (now from)) (summed at .relaxed-route .result .named) (route at h) (better-on (c .before) h) in
     subst (Settled at h) (sym (is ∙ same)) (subst (λ (t : Bool). Settled at h (judgedBy t (judged at h))) (c .before .if4 .taken) (settles at h))
 
@@ -460,12 +453,12 @@ returns-3 c =
     let waits = ne-eqb (v .count) 0 (from .before .before .before .if1 .left) in (
       asked .relaxed-route .ensures .0,
       λ b ready valid.
-      let (turn, next) = handed-back c (ready, valid) in (
-        turn,
-        next,
-        found asked (ready, valid) .1
-            ∙ sym (λ i. walkedFrom b q v (start from .args .walked .now) (waits i || ne-eqb (v .opened) (q .budget) (unspent from) i)),
-      ),
+          let (turn, next) = handed-back c (ready, valid) in (
+            turn,
+            next,
+            found asked (ready, valid) .1
+                ∙ sym (λ i. walkedFrom b q v (start from .args .walked .now) (waits i || ne-eqb (v .opened) (q .budget) (unspent from) i)),
+          ),
     )
 
 pub step-spec : {M : Type 1} → statement M
