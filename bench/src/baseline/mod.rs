@@ -1,6 +1,7 @@
 //! The baseline: the same search in plain, safe Rust, from plan bytes to sheet.
 //!
-//! depot      the plan decoded into arrays grouped by junction
+//! words      a belt in one word
+//! depot      the plan decoded into words by junction, and rules
 //! relax      the relaxed route of a subproblem
 //! rules      the rule test and the lowest setting
 //! search     the stack of subproblems
@@ -13,6 +14,7 @@ mod search;
 mod sheet;
 #[cfg(test)]
 mod tests;
+mod words;
 
 use crate::check;
 use crate::query::{Answer, Query, NONE, ROUTE, SPENT};
@@ -31,13 +33,13 @@ pub fn search(plan: &[u8], query: &Query, out: &mut [u8]) -> Answer {
 fn answer(plan: &[u8], query: &Query, out: &mut [u8]) -> Result<Answer, u64> {
     let records = check::check(plan)?;
     check_query(query, records[0][1].into(), out.len())?;
-    let depot = Depot::new(&records);
+    let depot = Depot::new(&records, query.pick);
     let mut search = Search::new(&depot, query);
     let ending = search.run();
     let opened = search.opened();
     Ok(match ending {
-        Ending::Route(route) => {
-            let length = sheet::write(&route, out) as u64;
+        Ending::Route(best) => {
+            let length = sheet::write(&best, out) as u64;
             Answer { number: ROUTE, opened, length }
         }
         Ending::None => Answer { number: NONE, opened, length: 0 },

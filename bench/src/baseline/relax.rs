@@ -1,97 +1,130 @@
-//! The relaxed route: a backward pass over the junctions between s and t, which
-//! stand in topological order, then a walk along the chosen belts.
+//! The relaxed route: a pass from t back to s over the junctions, which stand in
+//! topological order, then a walk along the links that it left.
 
-use super::depot::{Belt, Depot};
+use super::depot::{Depot, Row};
+use super::words::{cost, follow, head, of_cost, part};
 
-/// Farther than any route: 255 belts of 65,535 stay far below, and adding a
-/// belt does not overflow.
+/// Dearer than any route: 255 belts of 65,535 stay far below, and adding a belt
+/// does not overflow.
 const UNREACHED: u32 = u32::MAX / 2;
+
+/// The bound that every route stays within.
+pub const UNBOUNDED: u32 = UNREACHED - 1;
 
 #[derive(Clone, Copy)]
 pub struct Subproblem {
+    /// Places of named belts.
     pub required: u64,
     pub forbidden: u64,
+    /// Ranks of those that are neither.
+    pub unfixed: u64,
 }
 
-/// A route with its cost and its named belts as a mask.
-#[derive(Default)]
-pub struct Route {
-    pub cost: u32,
-    pub belts: Vec<u16>,
-    pub named: u64,
-}
-
+/// Junctions are counted from 0.
 pub struct Relaxation<'a> {
     depot: &'a Depot,
+    rows: Vec<Row<'a>>,
     s: usize,
     t: usize,
-    /// Named belts that leave a junction from s to before t.
+    /// The places of the named belts that leave a junction from s to before t.
     inside: u64,
-    /// By junction: the cost of its first route to t and that route's first belt,
-    /// counted within the junction.
-    cost: Vec<u32>,
-    via: Vec<usize>,
+    ways: Ways,
+}
+
+/// By junction: what its first way on to t costs, as in a word, and that way's
+/// first belt. Under a required belt they are left as they were.
+struct Ways {
+    rest: [u64; 256],
+    links: [u32; 256],
 }
 
 impl<'a> Relaxation<'a> {
     pub fn new(depot: &'a Depot, s: usize, t: usize) -> Relaxation<'a> {
-        let inside = (s..t).fold(0, |mask, junction| mask | depot.named_at(junction));
-        let cost = vec![UNREACHED; depot.junctions() + 1];
-        let via = vec![0; depot.junctions() + 1];
-        Relaxation { depot, s, t, inside, cost, via }
+        let inside = depot.places_below(t) & !depot.places_below(s);
+        let ways = Ways { rest: [0; 256], links: [0; 256] };
+        Relaxation { depot, rows: depot.rows(), s, t, inside, ways }
     }
 
-    /// The relaxed route's cost, if there is a relaxed route.
-    pub fn cost(&mut self, sub: &Subproblem) -> Option<u32> {
+    /// The relaxed route's cost, if there is a relaxed route within the bound.
+    pub fn cost(&mut self, sub: &Subproblem, bound: u32) -> Option<u32> {
         if self.s > self.t || sub.required & !self.inside != 0 {
             return None;
         }
-        self.cost[self.t] = 0;
-        // A belt beyond the nearest required junction, or beyond t, drops out.
-        let mut limit = self.t;
-        for junction in (self.s..self.t).rev() {
-            let required = self.depot.named_at(junction) & sub.required;
-            if required.count_ones() > 1 {
-                return None;
-            }
-            let usable = |belt: &Belt| {
-                belt.bit & sub.forbidden == 0
-                    && usize::from(belt.head) <= limit
-                    && (required == 0 || belt.bit == required)
-            };
-            let (cost, place) = first_belt(self.depot.leaving(junction), &self.cost, usable);
-            self.cost[junction] = cost;
-            self.via[junction] = place;
-            if required != 0 {
-                limit = junction;
-            }
+        self.ways.rest[self.t] = 0;
+        let mut cut = self.t;
+        let mut due = sub.required;
+        while due != 0 {
+            let place = due.ilog2();
+            due ^= 1 << place;
+            cut = self.require(place as usize, cut, sub.forbidden, bound)?;
         }
-        (self.cost[self.s] < UNREACHED).then_some(self.cost[self.s])
+        self.ways.pass(&self.rows, self.s, cut, sub.forbidden);
+        let cost = cost(self.ways.rest[self.s]);
+        (cost <= bound).then_some(cost)
     }
 
-    /// Writes the relaxed route whose cost was asked last.
-    pub fn walk(&self, route: &mut Route) {
-        route.cost = self.cost[self.s];
-        route.belts.clear();
-        route.named = 0;
-        let mut junction = self.s;
-        while junction != self.t {
-            let belt = &self.depot.leaving(junction)[self.via[junction]];
-            route.belts.push(belt.index);
-            route.named |= belt.bit;
-            junction = belt.head.into();
+    /// Goes on from the last cut to the tail of a required belt, the next cut. None
+    /// if the belt leads past the last one, or the way over it is not within the bound.
+    fn require(&mut self, place: usize, cut: usize, forbidden: u64, bound: u32) -> Option<usize> {
+        let (word, tail) = self.depot.named_belt(place);
+        let head = head(word);
+        if head > cut {
+            return None;
         }
+        self.ways.pass(&self.rows, head, cut, forbidden);
+        let way = self.ways.rest[head] + word;
+        if cost(way) > bound {
+            return None;
+        }
+        self.ways.keep(tail, way);
+        Some(tail)
+    }
+
+    /// The belts of the relaxed route whose cost was asked last.
+    pub fn belts(&self) -> impl Iterator<Item = u16> + '_ {
+        let mut junction = self.s;
+        std::iter::from_fn(move || {
+            if junction == self.t {
+                return None;
+            }
+            let (belt, next) = follow(self.ways.links[junction]);
+            junction = next;
+            Some(belt)
+        })
+    }
+
+    /// The ranks of the named belts among them.
+    pub fn named(&self) -> u64 {
+        self.belts().fold(0, |mask, belt| mask | self.depot.rank_bit(belt))
     }
 }
 
-/// The cheapest way on to t and the place of its belt; the lower belt of equals.
-fn first_belt(belts: &[Belt], onward: &[u32], usable: impl Fn(&Belt) -> bool) -> (u32, usize) {
-    let mut first = (UNREACHED, 0);
-    for (place, belt) in belts.iter().enumerate() {
-        let cost = belt.cost + onward[usize::from(belt.head)];
-        if cost < first.0 && usable(belt) {
-            first = (cost, place);
+impl Ways {
+    /// Finds the first ways on from the junctions below a cut, down to `low`.
+    fn pass(&mut self, rows: &[Row], low: usize, cut: usize, forbidden: u64) {
+        for (row, junction) in rows[low..cut].iter().zip(low..cut).rev() {
+            self.keep(junction, self.first_way(row, cut, forbidden));
         }
     }
-    first
+
+    /// The first way on from a junction, as a word. A belt past the cut drops out.
+    fn first_way(&self, row: &Row, cut: usize, forbidden: u64) -> u64 {
+        let mut least = of_cost(UNREACHED);
+        for (place, &word) in (row.place..).zip(row.named) {
+            if forbidden >> place & 1 == 0 && head(word) <= cut {
+                least = least.min(self.rest[head(word)] + word);
+            }
+        }
+        for &word in row.nameless {
+            if head(word) > cut {
+                break;
+            }
+            least = least.min(self.rest[head(word)] + word);
+        }
+        least
+    }
+
+    fn keep(&mut self, junction: usize, way: u64) {
+        (self.rest[junction], self.links[junction]) = part(way);
+    }
 }

@@ -1,12 +1,14 @@
 //! The written search over a stack of subproblems.
 
 use super::depot::Depot;
-use super::relax::{Relaxation, Route, Subproblem};
+use super::relax::{Relaxation, Subproblem, UNBOUNDED};
 use super::rules::lowest_setting;
 use crate::query::Query;
 
+/// A permitted route.
 pub struct Best {
-    pub route: Route,
+    pub cost: u32,
+    pub belts: Vec<u16>,
     pub setting: u16,
 }
 
@@ -20,24 +22,21 @@ pub struct Search<'a> {
     depot: &'a Depot,
     relaxation: Relaxation<'a>,
     query: Query,
-    by_rules: Vec<u64>,
     stack: Vec<Subproblem>,
     best: Option<Best>,
-    /// The relaxed route at hand; kept so that its memory is used again.
-    route: Route,
     opened: u64,
 }
 
 impl<'a> Search<'a> {
+    /// The depot must have been read for the query's pick.
     pub fn new(depot: &'a Depot, query: &Query) -> Search<'a> {
+        let (s, t) = (query.s as usize - 1, query.t as usize - 1);
         Search {
             depot,
-            relaxation: Relaxation::new(depot, query.s as usize, query.t as usize),
+            relaxation: Relaxation::new(depot, s, t),
             query: *query,
-            by_rules: if query.pick == 1 { depot.by_rules() } else { Vec::new() },
-            stack: vec![Subproblem { required: 0, forbidden: 0 }],
+            stack: vec![Subproblem { required: 0, forbidden: 0, unfixed: depot.all_named() }],
             best: None,
-            route: Route::default(),
             opened: 0,
         }
     }
@@ -60,49 +59,44 @@ impl<'a> Search<'a> {
 
     fn open(&mut self, sub: Subproblem) {
         self.opened += 1;
-        if !self.relax(&sub) {
+        let bound = self.best.as_ref().map_or(UNBOUNDED, |best| best.cost);
+        let Some(cost) = self.relaxation.cost(&sub, bound) else {
+            return;
+        };
+        if cost == bound && !self.lower_than_best() {
             return;
         }
-        if let Some(setting) = lowest_setting(self.depot, self.route.named) {
-            let route = std::mem::take(&mut self.route);
-            self.best = Some(Best { route, setting });
-            return;
-        }
-        let unfixed = self.depot.named & !sub.required & !sub.forbidden;
-        if unfixed != 0 {
-            self.branch(sub, self.pick(unfixed));
+        let on_route = self.relaxation.named();
+        if let Some(setting) = lowest_setting(self.depot, on_route) {
+            let belts = self.relaxation.belts().collect();
+            self.best = Some(Best { cost, belts, setting });
+        } else if sub.unfixed != 0 {
+            self.branch(sub, self.pick(sub.unfixed, on_route));
         }
     }
 
-    /// Finds the relaxed route; false if there is none or the best stays ahead.
-    fn relax(&mut self, sub: &Subproblem) -> bool {
-        let Some(cost) = self.relaxation.cost(sub) else {
-            return false;
-        };
-        let Some(best) = &self.best else {
-            self.relaxation.walk(&mut self.route);
-            return true;
-        };
-        if cost > best.route.cost {
-            return false;
-        }
-        self.relaxation.walk(&mut self.route);
-        cost < best.route.cost || self.route.belts < best.route.belts
+    /// Of two routes that cost the same, the one at hand and the best: has the one
+    /// at hand the lower belt where they part?
+    fn lower_than_best(&self) -> bool {
+        let best = self.best.iter().flat_map(|best| best.belts.iter().copied());
+        self.relaxation.belts().lt(best)
     }
 
-    fn pick(&self, unfixed: u64) -> u64 {
-        let lowest = |mask: u64| mask & mask.wrapping_neg();
-        match self.query.pick {
-            0 => lowest(unfixed),
-            1 => self.by_rules.iter().copied().find(|bit| unfixed & bit != 0).unwrap_or(0),
-            _ if unfixed & self.route.named != 0 => lowest(unfixed & self.route.named),
-            _ => lowest(unfixed),
+    /// The rank of the belt to fix next.
+    fn pick(&self, unfixed: u64, on_route: u64) -> u32 {
+        let first = if self.query.pick == 2 { unfixed & on_route } else { 0 };
+        if first != 0 {
+            first.trailing_zeros()
+        } else {
+            unfixed.trailing_zeros()
         }
     }
 
-    fn branch(&mut self, sub: Subproblem, bit: u64) {
-        let require = Subproblem { required: sub.required | bit, ..sub };
-        let forbid = Subproblem { forbidden: sub.forbidden | bit, ..sub };
+    fn branch(&mut self, sub: Subproblem, rank: u32) {
+        let place = self.depot.place_bit(rank);
+        let unfixed = sub.unfixed ^ 1 << rank;
+        let require = Subproblem { required: sub.required | place, unfixed, ..sub };
+        let forbid = Subproblem { forbidden: sub.forbidden | place, unfixed, ..sub };
         // The newest is taken next.
         if self.query.order == 0 {
             self.stack.extend([require, forbid]);

@@ -5,10 +5,9 @@ use crate::records::{encode, SHEET, SIZE, STEP};
 
 /// Writes the sheet to the start of `out` and says how long it is.
 pub fn write(best: &Best, out: &mut [u8]) -> usize {
-    let belts = &best.route.belts;
-    let cost = best.route.cost;
+    let Best { cost, belts, setting } = best;
     let first = u16::from(!belts.is_empty());
-    encode([SHEET, first, 0, (cost >> 16) as u16, cost as u16, best.setting], &mut out[..SIZE]);
+    encode([SHEET, first, 0, (cost >> 16) as u16, *cost as u16, *setting], &mut out[..SIZE]);
     let steps = out[SIZE..].chunks_exact_mut(SIZE);
     for (place, (bytes, &belt)) in steps.zip(belts).enumerate() {
         let next = if place + 1 == belts.len() { 0 } else { place as u16 + 2 };

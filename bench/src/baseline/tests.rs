@@ -88,6 +88,42 @@ fn examples_with_other_rules() {
     expect_no_route(&with_rules(&clash), QUERY, NONE, 1); // E11
 }
 
+/// Three belts from 1 to 2. The first is forbidden; of the others, which cost the
+/// same, the lower one is the route.
+#[test]
+fn twin_belts() {
+    let plan = [
+        [7, 2, 0, 6, 8, 0],
+        [1, 3, 0, 0, 0, 0],
+        [1, 0, 0, 0, 0, 0],
+        [2, 4, 2, 5, 0, 0],
+        [2, 5, 2, 7, 0, 0],
+        [2, 0, 2, 7, 0, 0],
+        [3, 0, 7, 0, 0, 0],
+        [4, 0, 0, 0, 3, 0],
+    ];
+    let belt_4 = [[8, 1, 0, 0, 7, 0], [5, 0, 4, 0, 0, 0]];
+    expect_route(&plan, Query { t: 2, ..QUERY }, 3, &belt_4);
+}
+
+/// Plan P with the belt from 2 ahead of those from 1: the pick goes by index, and
+/// not by junction.
+#[test]
+fn named_belts_out_of_order() {
+    let mut plan = P;
+    plan[1][1] = 5;
+    plan[2][1] = 4;
+    plan[4] = [2, 0, 3, 4, 0, 0];
+    plan[5] = [2, 6, 2, 3, 0, 0];
+    plan[6] = [2, 0, 3, 9, 0, 0];
+    plan[9][4] = 5;
+    let belt_6 = [[8, 1, 0, 0, 9, 0], [5, 0, 6, 0, 0, 0]];
+    for (pick, order) in [(0, 0), (0, 1), (1, 0), (1, 1), (2, 0), (2, 1)] {
+        expect_route(&plan, Query { pick, order, ..QUERY }, 5, &belt_6);
+    }
+    expect_no_route(&plan, Query { order: 1, budget: 4, ..QUERY }, SPENT, 4);
+}
+
 #[test]
 fn plan_refusals() {
     let refused = |at: usize, field: usize, value: u16| {
