@@ -116,7 +116,7 @@ fn literals_name(records: &[Record]) -> bool {
 }
 
 /// Line 7 counts each named belt once.
-fn named_belts(records: &[Record]) -> usize {
+pub fn named_belts(records: &[Record]) -> usize {
     let mut named = vec![false; records.len()];
     let mut count = 0;
     for r in records.iter().filter(|r| r[0] == LITERAL && r[3] == 0) {

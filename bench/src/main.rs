@@ -1,9 +1,8 @@
 //! The planner's benchmark: opened subproblems per second and checked plan bytes
-//! per second, libplanner.a against a plain Rust baseline in the same run.
-//!
-//! bench [ROW]: only the rows whose name contains ROW. BENCH_SECONDS is the time
-//! per row and side.
+//! per second, libplanner.a against a plain Rust baseline in the same run. What
+//! can be asked for is in `args`.
 
+mod args;
 mod baseline;
 mod call;
 mod check;
@@ -15,23 +14,58 @@ mod report;
 mod rng;
 mod rows;
 
+use args::Task;
+use std::process::ExitCode;
 use std::time::Duration;
 
-fn main() {
-    let wanted = std::env::args().nth(1).unwrap_or_default();
-    let time = Duration::from_secs_f64(seconds());
-    let mut searches = rows::searches();
-    searches.retain(|row| row.name.contains(&wanted));
-    let mut plans = rows::plans();
-    plans.retain(|row| row.name.contains(&wanted));
-    assert!(!searches.is_empty() || !plans.is_empty(), "no row's name contains {wanted:?}");
-    report::searches(&searches, time);
-    report::plan_checks(&plans, time);
+enum Failure {
+    /// Of the one who asks: status 2, with the usage.
+    Usage(String),
+    /// Of a file or of the comparison: status 1.
+    Run(String),
 }
 
-fn seconds() -> f64 {
-    match std::env::var("BENCH_SECONDS") {
-        Ok(text) => text.parse().expect("BENCH_SECONDS is a number of seconds"),
-        Err(_) => 0.3,
+fn main() -> ExitCode {
+    match run() {
+        Ok(()) => ExitCode::SUCCESS,
+        Err(Failure::Usage(what)) => {
+            eprintln!("bench: {what}\n\n{}", args::USAGE);
+            ExitCode::from(2)
+        }
+        Err(Failure::Run(what)) => {
+            eprintln!("bench: {what}");
+            ExitCode::from(1)
+        }
     }
+}
+
+fn run() -> Result<(), Failure> {
+    let words: Vec<_> = std::env::args_os().skip(1).collect();
+    let task = args::task(&words).map_err(Failure::Usage)?;
+    if task == Task::Help {
+        println!("{}", args::USAGE);
+        return Ok(());
+    }
+    let seconds = std::env::var_os("BENCH_SECONDS").map(|text| text.to_string_lossy().into_owned());
+    let time = args::time(seconds.as_deref()).map_err(Failure::Usage)?;
+    match task {
+        Task::Help => Ok(()),
+        Task::Rows(wanted) => run_rows(&wanted, time),
+        Task::File(path, query) => {
+            let row = rows::of_file(&path, query).map_err(Failure::Run)?;
+            report::file(&row, time).map_err(Failure::Run)
+        }
+    }
+}
+
+fn run_rows(wanted: &str, time: Duration) -> Result<(), Failure> {
+    let mut searches = rows::searches();
+    searches.retain(|row| row.name.contains(wanted));
+    let mut plans = rows::plans();
+    plans.retain(|row| row.name.contains(wanted));
+    if searches.is_empty() && plans.is_empty() {
+        return Err(Failure::Usage(format!("no row's name contains {wanted:?}")));
+    }
+    report::searches(&searches, time).map_err(Failure::Run)?;
+    report::plan_checks(&plans, time).map_err(Failure::Run)
 }

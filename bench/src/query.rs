@@ -1,6 +1,6 @@
 //! What a search is asked and what it answers, for both sides.
 
-#[derive(Clone, Copy)]
+#[derive(Clone, Copy, Debug, PartialEq)]
 pub struct Query {
     pub s: u64,
     pub t: u64,
@@ -16,6 +16,12 @@ pub struct Answer {
     pub number: u64,
     pub opened: u64,
     pub length: u64,
+}
+
+impl Answer {
+    pub fn refused(&self) -> bool {
+        ![ROUTE, NONE, SPENT].contains(&self.number)
+    }
 }
 
 pub const ROUTE: u64 = 0;

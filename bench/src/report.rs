@@ -1,7 +1,7 @@
 //! Compares both sides on each row, times them, and prints the tables.
 
 use crate::measure::{in_turn, Times};
-use crate::query::{Answer, NONE, ROUTE, SPENT};
+use crate::query::{Answer, Query, NONE, ROUTE, SPENT};
 use crate::records::SHEET_MAX;
 use crate::rows::{PlanRow, Row};
 use crate::{baseline, call, check};
@@ -23,17 +23,40 @@ Plan check: bytes per second.
 
 row                     bytes answer   planner/s      Rust/s  ratio";
 
-pub fn searches(rows: &[Row], time: Duration) {
+const REFUSED: &str = "
+The ending is the number of a refusal. Nothing is opened: the speeds are calls per second.";
+
+/// The rows of the benchmark, none of which may be refused.
+pub fn searches(rows: &[Row], time: Duration) -> Result<(), String> {
     if rows.is_empty() {
-        return;
+        return Ok(());
     }
     println!("{SEARCH_HEAD}");
-    let ratios: Vec<f64> = rows.iter().map(|row| search(row, time)).collect();
+    let mut ratios = Vec::new();
+    for row in rows {
+        let answer = same_answer(row)?;
+        if answer.refused() {
+            return Err(format!("row {}: refused with {}", row.name, answer.number));
+        }
+        ratios.push(search(row, &answer, time));
+    }
     summary(&ratios);
+    Ok(())
 }
 
-fn search(row: &Row, time: Duration) -> f64 {
-    let answer = same_answer(row);
+/// The row of a plan file. If it is refused on both sides, that is measured.
+pub fn file(row: &Row, time: Duration) -> Result<(), String> {
+    let answer = same_answer(row)?;
+    println!("{SEARCH_HEAD}");
+    let ratio = search(row, &answer, time);
+    if answer.refused() {
+        println!("{REFUSED}");
+    }
+    summary(&[ratio]);
+    Ok(())
+}
+
+fn search(row: &Row, answer: &Answer, time: Duration) -> f64 {
     let mut out = [0; SHEET_MAX];
     let mut rust_out = [0; SHEET_MAX];
     let times = in_turn(
@@ -47,56 +70,70 @@ fn search(row: &Row, time: Duration) -> f64 {
             black_box(baseline::search(plan, query, &mut rust_out));
         },
     );
-    let size = &row.size;
-    print!(
-        "{:<22} {:>4} {:>5} {:>5} {:>5} {:>5} {:>4} {:>5} {:>6} {:>7}",
-        row.name,
-        size.junctions,
-        size.belts,
-        size.rules,
-        size.named,
-        size.modes,
-        row.query.pick,
-        row.query.order,
-        ending(answer.number),
-        answer.opened
-    );
-    print_speed(&times, answer.opened as f64);
+    print_size(row);
+    let Query { pick, order, .. } = row.query;
+    print!(" {pick:>4} {order:>5} {:>6} {:>7}", ending(answer.number), answer.opened);
+    let units = if answer.refused() { 1 } else { answer.opened };
+    print_speed(&times, units as f64);
     times.ratio()
 }
 
+/// Starts a row: its name and the size of its plan, unknown if it is refused.
+fn print_size(row: &Row) {
+    let sizes = match &row.size {
+        Some(size) => [size.junctions, size.belts, size.rules, size.named, size.modes]
+            .map(|size| size.to_string()),
+        None => ["-"; 5].map(String::from),
+    };
+    let [junctions, belts, rules, named, modes] = sizes;
+    let name = &row.name;
+    print!("{name:<22} {junctions:>4} {belts:>5} {rules:>5} {named:>5} {modes:>5}");
+}
+
 /// Both sides must agree on the number, the count and every byte of the buffer.
-fn same_answer(row: &Row) -> Answer {
+fn same_answer(row: &Row) -> Result<Answer, String> {
     let mut out = [0xA5; SHEET_MAX];
     let mut rust_out = out;
     let answer = call::search(&row.plan, &row.query, &mut out);
     let rust = baseline::search(&row.plan, &row.query, &mut rust_out);
-    assert_eq!(answer, rust, "row {}: the answers differ", row.name);
-    assert!(out == rust_out, "row {}: the buffers differ", row.name);
-    answer
+    if answer != rust {
+        let name = &row.name;
+        return Err(format!("row {name}: the planner answers {answer:?}, and Rust {rust:?}"));
+    }
+    if out != rust_out {
+        return Err(format!("row {}: the answers agree, and the sheets differ", row.name));
+    }
+    Ok(answer)
 }
 
-fn ending(number: u64) -> &'static str {
+fn ending(number: u64) -> String {
     match number {
-        ROUTE => "route",
-        NONE => "none",
-        SPENT => "spent",
-        _ => panic!("a benchmark query is refused with {number}"),
+        ROUTE => "route".into(),
+        NONE => "none".into(),
+        SPENT => "spent".into(),
+        refused => refused.to_string(),
     }
 }
 
-pub fn plan_checks(rows: &[PlanRow], time: Duration) {
+pub fn plan_checks(rows: &[PlanRow], time: Duration) -> Result<(), String> {
     if rows.is_empty() {
-        return;
+        return Ok(());
     }
     println!("{CHECK_HEAD}");
-    let ratios: Vec<f64> = rows.iter().map(|row| plan_check(row, time)).collect();
+    let mut ratios = Vec::new();
+    for row in rows {
+        ratios.push(plan_check(row, time)?);
+    }
     summary(&ratios);
+    Ok(())
 }
 
-fn plan_check(row: &PlanRow, time: Duration) -> f64 {
+fn plan_check(row: &PlanRow, time: Duration) -> Result<f64, String> {
     let number = call::check_plan(&row.plan);
-    assert_eq!(number, check::number(&row.plan), "row {}: the answers differ", row.name);
+    let rust = check::number(&row.plan);
+    if number != rust {
+        return Err(format!("row {}: the planner answers {number}, and Rust {rust}", row.name));
+    }
     let times = in_turn(
         time,
         &mut || {
@@ -108,7 +145,7 @@ fn plan_check(row: &PlanRow, time: Duration) -> f64 {
     );
     print!("{:<22} {:>6} {:>6}", row.name, row.plan.len(), number);
     print_speed(&times, row.plan.len() as f64);
-    times.ratio()
+    Ok(times.ratio())
 }
 
 /// Ends a row: units per second of both sides and the ratio, marked if slow.

@@ -1,13 +1,16 @@
 //! The benchmark's rows: which plan, which query.
 
+use crate::check;
 use crate::plans::spec::Graph::{Local, Scattered, SideLine};
 use crate::plans::spec::Rules::{Bans, Covers, Mixed, Modes};
 use crate::plans::spec::{Network, Size, Spec, LARGEST};
 use crate::query::Query;
+use std::path::Path;
 
 pub struct Row {
-    pub name: &'static str,
-    pub size: Size,
+    pub name: String,
+    /// None if the plan is refused.
+    pub size: Option<Size>,
     pub plan: Vec<u8>,
     pub query: Query,
 }
@@ -36,9 +39,18 @@ pub fn searches() -> Vec<Row> {
     [small(), medium(), large(), largest(), trips(), modes()].into_iter().flatten().collect()
 }
 
-fn row(name: &'static str, spec: Spec, query: Query) -> Row {
+fn row(name: &str, spec: Spec, query: Query) -> Row {
     let (size, plan) = spec.plan();
-    Row { name, size, plan, query }
+    Row { name: name.into(), size: Some(size), plan, query }
+}
+
+/// The row of a query of a plan file, called by the file.
+pub fn of_file(path: &Path, query: Query) -> Result<Row, String> {
+    let read = std::fs::read(path);
+    let plan = read.map_err(|error| format!("{} cannot be read: {error}", path.display()))?;
+    let name = path.file_name().unwrap_or(path.as_os_str()).to_string_lossy().into();
+    let size = check::check(&plan).ok().map(|records| Size::of(&records));
+    Ok(Row { name, size, plan, query })
 }
 
 fn ask(s: u64, t: u64, pick: u64, order: u64, budget: u64) -> Query {
@@ -128,4 +140,30 @@ pub fn plans() -> Vec<PlanRow> {
         plan("check largest rules", NARROW.rules(1, 48, Mixed(300))),
         plan("check scattered", STREWN.rules(1, 48, Mixed(100))),
     ]
+}
+
+#[cfg(test)]
+mod tests {
+    use super::*;
+
+    fn example(name: &str) -> Result<Row, String> {
+        let folder = Path::new(env!("CARGO_MANIFEST_DIR")).join("../examples");
+        of_file(&folder.join(name), ask(1, 3, 0, 0, AMPLE))
+    }
+
+    #[test]
+    fn plan_files() {
+        let row = example("P.plan").expect("plan P");
+        assert_eq!(row.name, "P.plan");
+        assert_eq!(row.plan.len(), 120);
+        let size = Size { junctions: 3, belts: 3, rules: 1, named: 2, modes: 1 };
+        assert_eq!(row.size, Some(size));
+        assert_eq!(example("refused-5.plan").expect("a refused plan").size, None);
+    }
+
+    #[test]
+    fn missing_file() {
+        let error = example("no-such.plan").err().expect("there is no such file");
+        assert!(error.contains("no-such.plan"), "{error}");
+    }
 }

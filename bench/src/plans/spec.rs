@@ -2,7 +2,8 @@
 
 use super::rules::{bans, cheap_belts, covers, mixed, mode_conflict, mode_ties};
 use super::{graphs, Belt, Draft, Literal};
-use crate::records::{PLAN_MAX, SIZE};
+use crate::check::named_belts;
+use crate::records::{Record, BELT, PLAN_MAX, RULE, SIZE};
 use crate::rng::Rng;
 use std::ops::Range;
 
@@ -71,12 +72,28 @@ pub struct Spec {
     rules: Rules,
 }
 
+#[derive(Debug, PartialEq)]
 pub struct Size {
     pub junctions: usize,
     pub belts: usize,
     pub rules: usize,
     pub named: usize,
     pub modes: usize,
+}
+
+impl Size {
+    /// The size of a plan that is not refused.
+    pub fn of(records: &[Record]) -> Size {
+        let [_, junctions, modes, ..] = records[0];
+        let count = |kind: u16| records.iter().filter(|record| record[0] == kind).count();
+        Size {
+            junctions: junctions.into(),
+            belts: count(BELT),
+            rules: count(RULE),
+            named: named_belts(records),
+            modes: modes.into(),
+        }
+    }
 }
 
 impl Spec {
