@@ -1,4 +1,5 @@
--- The table of ways on, as the pass over words fills it (src/ways.rt). Only the contracts of private functions cite these; nobody has to believe them.
+-- The table of ways on, as the pass over words fills it (src/ways.rt). The contracts of that pass cite these, and the layers above only the size of the
+-- table (wayPlaces); nobody has to believe them.
 -- Junctions are counted from 1, and places of arrays from 0: place i is for junction i + 1. The array `ways` has the cost of the way on from each place,
 -- linkLimit times, and maxJunctions places further the link of its first belt.
 --

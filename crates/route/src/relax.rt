@@ -13,7 +13,6 @@ use plan::bounds::MAX_JUNCTIONS;
 use plan::bounds::MAX_RECORDS;
 use plan::bounds::MAX_STEPS;
 use plan::named;
-use plan::read::BeltId;
 use plan::words;
 use plan::words::FAR;
 use plan::words::LINK_LIMIT;
@@ -54,9 +53,6 @@ const NO_ROUTE: u64 = WAY_LIMIT;
 // A bound that every route keeps to, and that none costs as much as.
 pub const UNBOUNDED: u64 = WAY_LIMIT - 1;
 
-// A link is HEADS times the index of a belt, plus the place that it leads to.
-const HEADS: u64 = MAX_JUNCTIONS as u64;
-
 // A mask of named belts by their places as a mask in the order of tails: bit k of the answer is bit tailPlaceAt k of the mask.
 fn in_order(numbers: &[u16; NUMBERS], mask: u64) -> u64
     requires { ⌜ (namedAt (now numbers) ≤ maxNamed)
@@ -96,11 +92,11 @@ fn walk(
     let mut at = s;
     while at != t {
         let link = ways[MAX_JUNCTIONS + at];
-        let belt = BeltId((link / HEADS) as u16);
+        let belt = words::index(link);
         walked[count] = belt.0;
         count += 1;
         seen = masks::with(seen, named::place_of(places, belt));
-        at = (link % HEADS) as usize;
+        at = words::head(link);
     }
     Summary {
         cost: cost,
