@@ -5,7 +5,8 @@ use crate::notes;
 use crate::read::BeltId;
 use crate::record;
 ghost use mathlib.Core.Path.{_≡_};
-ghost use Prim.Native.Nat.{_<_};
+ghost use mathlib.Core.List.{List};
+ghost use Prim.Native.Nat.{ℕ, _<_};
 ghost use lib.ListN.{length, replicate};
 ghost use Rattle.plan.specs.Bounds.{maxRecords};
 ghost use Rattle.plan.specs.Plan.{planOf, named, listed, placesOf, placeIn};
@@ -49,13 +50,18 @@ pub fn named_belts(p: &[u8]) -> Named
 }
 
 // Fills the array in which `place_of` looks places up: for each belt its place among the named belts of an accepted plan. `list` is what
-// `named_belts` answers; the array is all 0 before.
-pub fn places_among(p: &[u8], list: Named, places: &mut [u8; MAX_RECORDS])
-    requires { ⌜ Accepted (now p)
-        × (list .count ≡ length (named (planOf (now p))))
-        × (list .belts ≡ listed (named (planOf (now p))))
+// `named_belts` answers; the array is all 0 before. What is filled is said of every plan whose list it is.
+pub fn places_among(list: Named, places: &mut [u8; MAX_RECORDS])
+    requires { ⌜ ((b : List ℕ)
+        × Accepted b
+        × (list .count ≡ length (named (planOf b)))
+        × (list .belts ≡ listed (named (planOf b))))
         × (now places ≡ replicate maxRecords 0) ⌝ }
-    ensures { λ _. ⌜ now (places .exit) ≡ placesOf (named (planOf (now (p .entry)))) ⌝ }
+    ensures { λ _. ⌜ ((b : List ℕ)
+        → Accepted b
+        → list .count ≡ length (named (planOf b))
+        → list .belts ≡ listed (named (planOf b))
+        → now (places .exit) ≡ placesOf (named (planOf b))) ⌝ }
 {
     let mut k = 0;
     while k < list.count {
@@ -71,7 +77,7 @@ pub fn named_places(p: &[u8]) -> [u8; MAX_RECORDS]
     ensures { λ v. ⌜ v ≡ placesOf (named (planOf (now (p .entry)))) ⌝ }
 {
     let mut places = [0u8; MAX_RECORDS];
-    places_among(p, named_belts(p), &mut places);
+    places_among(named_belts(p), &mut places);
     places
 }
 

@@ -60,7 +60,7 @@ pub fn prepare(
         × (now (clauses .exit) ≡ clausesIn (length (now (clauses .entry))) (now (p .entry))) ⌝ }
 {
     let list = named::named_belts(p);
-    named::places_among(p, list, places);
+    named::places_among(list, places);
     words::fill(p, places, words, numbers);
     clauses::decode(p, places, clauses);
     put_counts(numbers, counts::rule_counts(p, places, list.count));

@@ -9,6 +9,7 @@ use Rattle.plan.specs.Plan.{planOf}
 use Rattle.plan.specs.Words.{rowNumbers, numbersEnd}
 use Rattle.plan.proofs.Reading.{plan-sizes}
 use Rattle.plan.proofs.WordsLists.{length-padded}
+use Rattle.route.specs.Values.{namedPlaces}
 use Rattle.search.specs.Values.{countsFrom, modesFrom}
 use Rattle.search.proofs.BranchCounts.{length-counts}
 use Rattle.search.proofs.PrepareNumbers.{rows-size, numbers-made}
@@ -21,14 +22,31 @@ named-belts-requires c κs = search needs
 places-among-requires : tie.Need-places-among-requires
 places-among-requires c κs = search needs
 
+-- the places are those of the plan's named belts
+abbrev asked : tie.After-places-among → tie.Start
+asked c = c .before .before .before .before .before .before
+
+places-are : (c : tie.After-places-among) → c .places-among .last .1 .0 ≡ namedPlaces (asked c .args .p .now)
+places-are c =
+    let list = c .before .before .named-belts .ensures in
+    c .places-among .ensures (asked c .args .p .now) (asked c .pre .0) (list .0) (list .1)
+
 fill-requires : tie.Need-fill-requires
-fill-requires c κs = search needs
+fill-requires c κs =
+    let placed = c .before .before .before in
+    let pre = asked placed .pre in
+    (pre .0, places-are placed, pre .1, pre .2, pre .3)
 
 decode-requires : tie.Need-decode-requires
-decode-requires c κs = search needs
+decode-requires c κs =
+    let placed = c .before .before .before .before .before .before .before .before in
+    let pre = asked placed .pre in
+    (pre .0, places-are placed, pre .5, pre .6)
 
 rule-counts-requires : tie.Need-rule-counts-requires
-rule-counts-requires c κs = search needs
+rule-counts-requires c κs =
+    let placed = c .before .before .before .before .before .before .before .before .before .before .before .before .before in
+    (asked placed .pre .0, places-are placed, placed .before .before .named-belts .ensures .0)
 
 -- where the words were filled, and where all was asked for
 abbrev filled : tie.After-rule-counts → tie.After-fill
@@ -72,7 +90,7 @@ returns c =
     let numbers = fill .fill .ensures .1 in (
       fill .fill .ensures .0,
       (λ i. set (stored i) modesFrom (c .modes .ensures i)) ∙ (λ i. set (sets (numbers i) countsFrom (counts i)) modesFrom (p .modes)) ∙ numbers-made ok,
-      fill .before .before .before .before .places-among .ensures,
+      places-are (fill .before .before .before .before),
       counted .before .before .before .before .before .decode .ensures,
     )
 
