@@ -82,8 +82,10 @@ pub record Asked (b : List ℕ) (x : Subproblem) (words numbers : List ℕ) (due
   pub bytes : Bytes b
   pub inside : suc t ≤ planOf b .junctions
   pub tabled : Tabled (planOf b) words numbers
-  pub of-nameless : (e : Belt) → List·Memᴰ e (planOf b .belts) → isNamed (planOf b) e ≡ false → (isRequired x e ≡ false) × (isForbidden x e ≡ false)
-  pub of-named : (u k : ℕ) (e : Belt) → Arc (planOf b) words numbers u k e → (isRequired x e ≡ bit due k) × (isForbidden x e ≡ bit forbidden (tailPlaceAt numbers k))
+  pub of-nameless : (e : Belt) → List·Memᴰ e (planOf b .belts) → isNamed (planOf b) e ≡ false
+      → (isRequired x e ≡ false) × (isForbidden x e ≡ false)
+  pub of-named : (u k : ℕ) (e : Belt) → Arc (planOf b) words numbers u k e
+      → (isRequired x e ≡ bit due k) × (isForbidden x e ≡ bit forbidden (tailPlaceAt numbers k))
   -- what x requires are belts of the plan
   pub belts : (n : ℕ) → List·Memᴰ n (x .required) → (e : Belt) × List·Memᴰ e (planOf b .belts) × (n ≡ e .index)
   pub placed : (k : ℕ) → bit due k ≡ true → k < namedAt numbers

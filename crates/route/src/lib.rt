@@ -17,4 +17,4 @@ pub mod path;
 pub mod relax;
 mod rules;
 pub mod sheet;
-pub mod ways;
+mod ways;

@@ -8,7 +8,6 @@
 use crate::masks;
 use crate::path::Trip;
 use crate::ways;
-use crate::ways::WAYS;
 use plan::bounds::MAX_JUNCTIONS;
 use plan::bounds::MAX_RECORDS;
 use plan::bounds::MAX_STEPS;
@@ -46,6 +45,9 @@ pub struct Summary {
     pub count: usize,
     pub named: u64,
 }
+
+// The places of the table of the pass, which the caller lends.
+pub const WAYS: usize = ways::PLACES;
 
 // The cost of a route that is not there: no route costs as much.
 const NO_ROUTE: u64 = WAY_LIMIT;

@@ -31,7 +31,7 @@ ghost use Rattle.route.specs.Ways.{wayPlaces, restOf, Spared, Asked, Tra
 ghost use Rattle.route.specs.Ways.{Low, Room, Near, OpenArc, Least, Rows, Piece, Ready, Stands};
 
 // The places of the table: costs, and then links.
-pub const WAYS: usize = 2 * MAX_JUNCTIONS;
+pub const PLACES: usize = 2 * MAX_JUNCTIONS;
 
 // Above the head of every word.
 const HEADS: u64 = MAX_JUNCTIONS as u64;
@@ -54,7 +54,7 @@ fn row(
     words: &[u64],
     first: usize,
     last: usize,
-    ways: &[u64; WAYS],
+    ways: &[u64; PLACES],
     nearest: usize,
     from: u64,
 ) -> u64
@@ -84,14 +84,15 @@ fn row_named(
     numbers: &[u16; NUMBERS],
     first: usize,
     last: usize,
-    ways: &[u64; WAYS],
+    ways: &[u64; PLACES],
     nearest: usize,
     forbidden: u64,
 ) -> u64
     requires { ⌜ Sound (now words) (now numbers)
         × (last ≤ maxNamed)
         × Low (now ways) ⌝ }
-    ensures { λ v. ⌜ Least (now (words .entry)) (OpenArc (now (words .entry)) (now (numbers .entry)) nearest forbidden) first last (now (ways .entry)) far v ⌝ }
+    ensures { λ v. ⌜ Least (now (words .entry)) (OpenArc (now (words .entry)) (now (numbers .entry)) nearest forbidden)
+        first last (now (ways .entry)) far v ⌝ }
 {
     let mut least = FAR;
     let mut i = first;
@@ -114,7 +115,7 @@ fn least_at(
     words: &[u64],
     numbers: &[u16; NUMBERS],
     forbidden: u64,
-    ways: &[u64; WAYS],
+    ways: &[u64; PLACES],
     nearest: usize,
     u: usize,
 ) -> u64
@@ -151,7 +152,7 @@ fn piece(
     forbidden: u64,
     low: usize,
     nearest: usize,
-    ways: &mut [u64; WAYS],
+    ways: &mut [u64; PLACES],
 )
     requires { ⌜ Sound (now words) (now numbers)
         × Room (now ways)
@@ -201,7 +202,7 @@ pub fn ways_to(
     limit: u64,
     s: usize,
     t: usize,
-    ways: &mut [u64; WAYS],
+    ways: &mut [u64; PLACES],
 ) -> u64
     requires { ⌜ Sound (now words) (now numbers)
         × (now ways ≡ replicate wayPlaces 0)

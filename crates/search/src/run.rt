@@ -6,7 +6,7 @@ use crate::state::Stepped;
 use plan::bounds::MAX_RECORDS;
 use plan::bounds::MAX_STEPS;
 use plan::words::NUMBERS;
-use route::ways::WAYS;
+use route::relax::WAYS;
 ghost use mathlib.Core.Path.{_≡_};
 ghost use mathlib.Core.List.{List};
 ghost use Prim.Native.Nat.{ℕ};

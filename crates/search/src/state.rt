@@ -15,7 +15,7 @@ use route::path;
 use route::path::Route;
 use route::relax;
 use route::relax::Fixings;
-use route::ways::WAYS;
+use route::relax::WAYS;
 ghost use mathlib.Core.Path.{_≡_};
 ghost use mathlib.Core.List.{List};
 ghost use Prim.Native.Nat.{ℕ, _≤_, _<_};

@@ -9,7 +9,7 @@ use route::masks;
 use route::path::Trip;
 use route::relax::Fixings;
 use route::relax::Summary;
-use route::ways::WAYS;
+use route::relax::WAYS;
 use test_cases::lines;
 use test_cases::plans::Plan;
 use test_cases::print::print_number;
