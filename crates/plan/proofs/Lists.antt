@@ -84,6 +84,13 @@ leb-not a b = go (test (ltb b a))
     go (inl t) = lt-leb a b (ltb-true b a t) ∙ sym (ap not t)
     go (inr t) = le-leb a b (ltb-false b a t) ∙ sym (ap not t)
 
+pub lt-or-le : (m n : ℕ) → (m < n) ⊎ (n ≤ m)
+lt-or-le m n = go (ltb m n) refl
+  where
+    go : (t : Bool) → ltb m n ≡ t → (m < n) ⊎ (n ≤ m)
+    go true q = inl (ltb-true m n q)
+    go false q = inr (ltb-false m n q)
+
 pub within-is : (a n z : ℕ) → within a n z ≡ true → (a ≤ n) × (n ≤ z)
 within-is a n z h = let k = both (leb a n) (leb n z) h in (leb-true a n (k .0), leb-true n z (k .1))
 

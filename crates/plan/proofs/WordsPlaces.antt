@@ -1,6 +1,5 @@
 -- Where things stand in the arrays of a plan (specs/Words.antt): what each part of the array of numbers has, and which belt each place of the words is.
 --
---   lt-or-le           of two numbers one is less, or the other is not above it
 --   at-member, member-at
 --                      what stands at a place of a list is in it, and what is in it stands at a place
 --   pick               one belt for all that is made of the belts of a list
@@ -30,14 +29,13 @@ use native.Mathlib.Omega.{arith}
 use native.Mathlib.Nat.{eq-or-lt-of-le}
 use lib.ListN.{length, getD, length-append, length-map, List·getD-append}
 use lib.Dec.{eqb, ltb}
-use borrow.Author.Tests.{ltb-true, ltb-false}
 use Rattle.plan.specs.Bounds.{maxJunctions, maxNamed, junctionPlaces}
 use Rattle.plan.specs.Lists.{keepBy, keep, upto}
 use Rattle.plan.specs.Plan.{Belt, Plan, planOf, indicesOf, leaving, named}
 use Rattle.plan.specs.Reading.{Accepted}
 use Rattle.plan.specs.Words.{wordOf, inOrder, isNamed, isNameless, rowOf, rowsTo, namedTo, padded, wordsIn, startsOf, marksOf, tailsOf, tailPlacesOf, rowNumbers, tailsFrom, tailPlacesFrom, namedFrom, rowNumbersEnd, startAt, markAt, tailAt, tailPlaceAt, namedAt}
 use Rattle.plan.specs.Inner.{startOf, markOf, tailOf, tailPlaceOf}
-use Rattle.plan.proofs.Lists.{keep-in, in-map, map-in, getD-first}
+use Rattle.plan.proofs.Lists.{lt-or-le, keep-in, in-map, map-in, getD-first}
 use Rattle.plan.proofs.ListRising.{Rises, more}
 use Rattle.plan.proofs.Reading.{plan-sizes, leaving-in, belts-rise}
 use Rattle.plan.proofs.WordsLists.{getD-behind, padded-at, padded-past}
@@ -46,13 +44,6 @@ use Rattle.plan.proofs.WordsNamed.{keep-append, named-order}
 use Rattle.plan.proofs.WordsFilled.{words-at, words-first, words-all, length-starts, length-marks, length-tails, length-upto}
 
 -- ---- lists by their places
-
-pub lt-or-le : (m n : ℕ) → (m < n) ⊎ (n ≤ m)
-lt-or-le m n = go (ltb m n) refl
-  where
-    go : (t : Bool) → ltb m n ≡ t → (m < n) ⊎ (n ≤ m)
-    go true q = inl (ltb-true m n q)
-    go false q = inr (ltb-false m n q)
 
 pub at-member : (l : List ℕ) (i : ℕ) → i < length l → List·Memᴰ (getD l i 0) l
 at-member [] i h = absurd (omega arith)

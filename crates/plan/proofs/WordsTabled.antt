@@ -24,7 +24,7 @@ use Rattle.plan.specs.Reading.{Accepted, Bytes}
 use Rattle.plan.specs.Words.{wordOf, wordHead, far, isNamed, isNameless, rowOf, rowsTo, namedTo, padded, wordsIn, rowNumbers, startAt, markAt, namedAt}
 use Rattle.plan.specs.Tables.{Below, Rising, Sound, Word, Covered, Arc, Tabled}
 use Rattle.plan.specs.Inner.{wordsTo, startOf, markOf, tailOf, tailPlaceOf}
-use Rattle.plan.proofs.Lists.{in-keep, map-in, mem-in}
+use Rattle.plan.proofs.Lists.{lt-or-le, in-keep, map-in, mem-in}
 use Rattle.plan.proofs.ListRising.{none}
 use Rattle.plan.proofs.NamedBelts.{named-rises}
 use Rattle.plan.proofs.NamedPlaces.{at-place, place-in}
@@ -33,7 +33,7 @@ use Rattle.plan.proofs.WordsParts.{belt-word, belt-parts, same-word}
 use Rattle.plan.proofs.WordsRows.{row-covers, row-rises, heads-rise}
 use Rattle.plan.proofs.WordsNamed.{order-fit, named-order, named-all}
 use Rattle.plan.proofs.WordsFilled.{length-words, words-all, rows-fit}
-use Rattle.plan.proofs.WordsPlaces.{lt-or-le, at-member, member-at, rises-once, named-in, word-in, rows-in, namedOf, mark-next, start-next, marks-rise, mark-of, leaving-rises, row-at, length-numbers, named-at, start-at, start-past, mark-at, mark-past, tails-are, places-are, Placed, belts-at, belt-at}
+use Rattle.plan.proofs.WordsPlaces.{at-member, member-at, rises-once, named-in, word-in, rows-in, namedOf, mark-next, start-next, marks-rise, mark-of, leaving-rises, row-at, length-numbers, named-at, start-at, start-past, mark-at, mark-past, tails-are, places-are, Placed, belts-at, belt-at}
 
 -- ---- words
 

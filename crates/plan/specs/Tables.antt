@@ -1,6 +1,6 @@
--- What a pass over the words of a plan (Words.antt) goes by: not what stands where, but which belts have a word. So neither that rows are sorted nor
--- that a belt with a lesser twin is left out matters to it. That the arrays of an accepted plan are so is a law (proofs/WordsTabled.antt); nobody has to believe
--- these. Places are counted from 0: place u is for junction u + 1.
+-- What a pass over the words of a plan (Words.antt) goes by: not what stands where, but which belts have a word. So neither that rows are sorted nor that
+-- a belt with a lesser twin is left out matters to it. That the arrays of an accepted plan are so is a law (proofs/WordsTabled.antt), so that nobody has to
+-- believe these of a prepared plan. Places are counted from 0: place u is for junction u + 1.
 --
 --   Below ws             every word is below far, so that far and a word can be added
 --   Rising ws first last the heads of the words from place first on and before place last rise

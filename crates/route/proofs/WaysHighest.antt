@@ -14,10 +14,9 @@ use native.Mathlib.Omega.{arith}
 use native.Mathlib.Nat.{div-eq-of-lt, eq-or-lt-of-le, two-pow-succ}
 use lib.Pow.{pow-mono}
 use lib.Dec.{eqb}
-use Rattle.plan.proofs.Lists.{never}
+use Rattle.plan.proofs.Lists.{lt-or-le, never}
 use Rattle.route.proofs.MaskBits.{low-bits, high-bits}
 use Rattle.route.specs.Ways.{bit}
-use Rattle.route.proofs.WaysRows.{lt-or-le}
 
 pub high-none : (m j : ℕ) → m < 2 ^ j → bit m j ≡ false
 high-none m j h = ap (λ (n : ℕ). eqb (n % 2) 1) (div-eq-of-lt h)

@@ -33,7 +33,7 @@ use Rattle.plan.specs.Plan.{Belt, planOf}
 use Rattle.plan.specs.Reading.{Accepted}
 use Rattle.plan.specs.Words.{linkLimit, wayLimit, far, linkOf, wordIndex, isNamed, markAt}
 use Rattle.plan.specs.Tables.{Arc, Tabled}
-use Rattle.plan.proofs.Lists.{test, never, in-mem, mem-in}
+use Rattle.plan.proofs.Lists.{lt-or-le, test, never, in-mem, mem-in}
 use Rattle.plan.proofs.Reading.{plan-sizes, belt-index, belt-ends}
 use Rattle.route.specs.Routes.{IsRoute, cost, before}
 use Rattle.route.specs.Permission.{passes}
@@ -47,7 +47,6 @@ use Rattle.route.proofs.SubproblemFirst.{admits-is, relaxed-some, is-re
 use Rattle.route.proofs.SubproblemCut.{in-passes, on-route, route-between, cut-claim}
 use Rattle.route.proofs.RelaxOnward.{Owed, AllOwed, remaining-step, way-end, way-route, way-next, way-above, way-relaxed}
 use Rattle.route.proofs.WaysWords.{parts, link-of, index-of}
-use Rattle.route.proofs.WaysRows.{lt-or-le}
 use Rattle.route.proofs.WaysFirst.{First}
 use Rattle.route.proofs.WaysHighest.{high-none, top-set, top-last, rest-in, in-rest, rest-not}
 use Rattle.route.proofs.WaysStanding.{entered, ready-stored}

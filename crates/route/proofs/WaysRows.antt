@@ -1,6 +1,5 @@
 -- The least way over a row of words, one word after the other.
 --
---   lt-or-le      one number is below another, or is not
 --   least-start   before the first word it is what the row starts from
 --   least-taken   an open word is looked at: the lesser of what was least and the way over it
 --   least-passed  a word that is not open is passed over
@@ -18,17 +17,8 @@ use mathlib.Core.List.{List}
 use native.Mathlib.Omega.{arith}
 use native.Mathlib.Nat.{eq-or-lt-of-le}
 use lib.ListN.{getD}
-use lib.Dec.{ltb}
-use borrow.Author.Tests.{ltb-true, ltb-false}
-use Rattle.plan.proofs.Lists.{test}
+use Rattle.plan.proofs.Lists.{lt-or-le}
 use Rattle.route.specs.Ways.{overWord, Hit, Least}
-
-pub lt-or-le : (j i : ℕ) → (j < i) ⊎ (i ≤ j)
-lt-or-le j i = go (test (ltb j i))
-  where
-    go : (ltb j i ≡ true) ⊎ (ltb j i ≡ false) → (j < i) ⊎ (i ≤ j)
-    go (inl h) = inl (ltb-true j i h)
-    go (inr h) = inr (ltb-false j i h)
 
 pub record Reached (first last i : ℕ) : Type 0 where
   pub from : first ≤ i

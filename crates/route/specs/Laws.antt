@@ -25,7 +25,8 @@ use Rattle.route.specs.declared.relax.Fixings.{Fixings}
 use Rattle.route.specs.Routes.{cost, costLimit}
 use Rattle.route.specs.Subproblems.{Subproblem, relaxed}
 use Rattle.route.specs.Sheets.{inForm}
-use Rattle.route.specs.Values.{idsOf, packed, Known, routeIn, sheetIn, bytesOf, fixedIn, OfNamed, subproblemIn, routeOf, firstBelts, atMost, unbounded, walkedOf}
+use Rattle.route.specs.Values.{idsOf, packed, Known, routeIn, sheetIn, bytesOf, fixedIn, OfNamed, subproblemIn}
+use Rattle.route.specs.Values.{routeOf, firstBelts, atMost, unbounded, walkedOf}
 
 abbrev pub BitLaw : Type 0
 BitLaw = (b : List ℕ) (m k : ℕ) → k < length (named (planOf b))

@@ -1,5 +1,5 @@
--- In the order in which to read them. Lcsp stands by itself: it is the published definition. `Laws` is what the layers above go by, `Inner`, `Ways` and `Walks` are for
--- the contracts of inner functions alone.
+-- In the order in which to read them. Lcsp stands by itself: it is the published definition. `Laws` is what the layers above go by; `Inner`, `Ways`
+-- and `Walks` are for the contracts of inner functions alone.
 pub mod Lcsp
 pub mod Routes
 pub mod Permission
