@@ -47,7 +47,7 @@ use native.Mathlib.Omega.{arith}
 use lib.ListN.{length, length-map}
 use lib.Dec.{eqb, ltb}
 use borrow.Author.Tests.{eqb-true, eqb-false, eq-eqb, lt-ltb, ltb-true}
-use Rattle.plan.specs.Bounds.{maxJunctions, maxModes, maxNamed, maxRecords, fieldLimit}
+use Rattle.plan.specs.Bounds.{maxJunctions, maxModes, maxNamed, maxRecords, fieldLimit, beltCostLimit}
 use Rattle.plan.specs.declared.read.BeltId.{BeltId}
 use Rattle.plan.specs.declared.read.ModeId.{ModeId}
 use Rattle.plan.specs.declared.read.Literal.{Literal}
@@ -269,11 +269,11 @@ module _ {b : List ℕ} (ok : Accepted b) where
   pub belt-low : (e : ℕ) → IsBelt b e → (planOf b .junctions < e) × (e < records b) × (e < maxRecords)
   belt-low = item-low belts
 
-  pub belt-cost : Bytes b → (e : ℕ) → beltAt b e .cost < fieldLimit
+  pub belt-cost : Bytes b → (e : ℕ) → beltAt b e .cost < beltCostLimit
   belt-cost bytes e = field-low b bytes e 3
 
-  pub belts-cost : Bytes b → (x : Belt) → List·Memᴰ x (planOf b .belts) → x .cost < fieldLimit
-  belts-cost bytes x m = subst (λ (y : Belt). y .cost < fieldLimit) (sym (belt-of x m .1)) (belt-cost bytes (x .index))
+  pub belts-cost : Bytes b → (x : Belt) → List·Memᴰ x (planOf b .belts) → x .cost < beltCostLimit
+  belts-cost bytes x m = subst (λ (y : Belt). y .cost < beltCostLimit) (sym (belt-of x m .1)) (belt-cost bytes (x .index))
 
   -- ---- rules
 

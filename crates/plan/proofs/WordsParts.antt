@@ -1,7 +1,7 @@
 -- The word of a belt (specs/Words.antt): its parts, and how large it is.
 --
 --   word-parts     the parts of a belt's word are the belt's
---   word-below     a word is below far, where its cost is below 2^32
+--   word-below     a word is below far, where its cost is below beltCostLimit
 --   belt-word      so the word of a belt of the plan is; belt-parts: and its parts are the belt's
 --   same-word      belts of the plan with one word are one belt
 --
@@ -10,7 +10,7 @@ use mathlib.Core.Path.{_≡_, sym, _∙_, ap}
 use Prim.Native.Nat.{ℕ, _-_, _≤_, _<_}
 use mathlib.Core.List.{List, List·Memᴰ}
 use native.Mathlib.Omega.{arith}
-use Rattle.plan.specs.Bounds.{maxJunctions, maxRecords}
+use Rattle.plan.specs.Bounds.{beltCostLimit, maxJunctions, maxRecords}
 use Rattle.plan.specs.Plan.{Belt, planOf}
 use Rattle.plan.specs.Reading.{Accepted, Bytes}
 use Rattle.plan.specs.Words.{wordOf, wordCost, wordIndex, wordHead, far}
@@ -20,7 +20,7 @@ module _ (e : Belt) (low : e .index < maxRecords) (from : 1 ≤ e .leads) (top :
   pub word-parts : (wordCost (wordOf e) ≡ e .cost) × (wordIndex (wordOf e) ≡ e .index) × (wordHead (wordOf e) ≡ e .leads - 1)
   word-parts = (omega arith, omega arith, omega arith)
 
-  pub word-below : e .cost < 4294967296 → wordOf e < far
+  pub word-below : e .cost < beltCostLimit → wordOf e < far
   word-below cost = omega arith
 
 module _ {b : List ℕ} (ok : Accepted b) (e : Belt) (m : List·Memᴰ e (planOf b .belts)) where
@@ -34,7 +34,7 @@ module _ {b : List ℕ} (ok : Accepted b) (e : Belt) (m : List·Memᴰ e (planOf
   belt-parts = word-parts e index-low (leads-in .0) (leads-in .1)
 
   pub belt-word : Bytes b → wordOf e < far
-  belt-word bytes = word-below e index-low (leads-in .0) (leads-in .1) (omega (arith, belts-cost ok bytes e m))
+  belt-word bytes = word-below e index-low (leads-in .0) (leads-in .1) (belts-cost ok bytes e m)
 
 pub same-word : {b : List ℕ} (ok : Accepted b) (d e : Belt) → List·Memᴰ d (planOf b .belts) → List·Memᴰ e (planOf b .belts) → wordOf d ≡ wordOf e → d ≡ e
 same-word ok d e m k q = belt-index ok d e m k (sym (belt-parts ok d m .1) ∙ ap wordIndex q ∙ belt-parts ok e k .1)

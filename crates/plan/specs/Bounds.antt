@@ -1,6 +1,7 @@
 -- The limits of the format (paper 01), each written once. The code has the same numbers under the same names (src/bounds.rt).
 --
 --   fieldLimit        what a field holds is below it: two bytes
+--   beltCostLimit     what a belt costs is below it: one field
 --   recordBytes       the bytes of a record
 --   maxRecords        the most records of a plan
 --   minPlanBytes, maxPlanBytes
@@ -17,6 +18,9 @@ use Prim.Native.Nat.{ℕ, _+_, _*_, _-_}
 
 abbrev pub fieldLimit : ℕ
 fieldLimit = 65536
+
+abbrev pub beltCostLimit : ℕ
+beltCostLimit = fieldLimit
 
 abbrev pub recordBytes : ℕ
 recordBytes = 12

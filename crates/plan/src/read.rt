@@ -3,7 +3,7 @@ use crate::record;
 use crate::record::BELT;
 ghost use mathlib.Core.Path.{_≡_};
 ghost use Prim.Native.Nat.{_<_, _≤_};
-ghost use Rattle.plan.specs.Bounds.{fieldLimit};
+ghost use Rattle.plan.specs.Bounds.{beltCostLimit};
 ghost use Rattle.plan.specs.Records.{field, records};
 ghost use lib.Dec.{eqb};
 ghost use Rattle.plan.specs.Lists.{mem};
@@ -117,7 +117,7 @@ pub fn cost(p: &[u8], belt: BeltId) -> u64
     requires { ⌜ Accepted (now p)
         × IsBelt (now p) (belt .0) ⌝ }
     ensures { λ v. ⌜ (v ≡ beltAt (now (p .entry)) (belt .0) .cost)
-        × (v < fieldLimit) ⌝ }
+        × (v < beltCostLimit) ⌝ }
 {
     at(p, belt.0 as usize, 3) as u64
 }

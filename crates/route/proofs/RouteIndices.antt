@@ -11,7 +11,7 @@
 --   route-belts      its belts are the plan's
 --   passes-indices   it passes the belts whose indices it has
 --   route-length     it has at most t - s belts: each leads higher
---   sum-cost         THE BOUND of a cost: 65,535 for each belt of the plan, whether they are a route or not
+--   sum-cost         THE BOUND of a cost: beltCostLimit - 1 for each belt of the plan, whether they are a route or not
 --   route-few, route-cheap
 --                    so between junctions it has at most maxSteps belts, and costs less than `unbounded`
 --   ends-junctions   s and t are junctions where they are no wrong ends
@@ -34,7 +34,7 @@ use lib.Seq.{take-at, sets}
 use lib.Dec.{eqb}
 use borrow.Author.Tests.{eqb-true, eq-eqb, ne-eqb, not-false}
 use Rattle.plan.specs.declared.read.BeltId.{BeltId}
-use Rattle.plan.specs.Bounds.{maxSteps}
+use Rattle.plan.specs.Bounds.{beltCostLimit, maxSteps}
 use Rattle.plan.specs.Lists.{all, keepBy, keep, mem, within}
 use Rattle.plan.specs.Plan.{Belt, Plan, planOf, beltAt, indicesOf, beltId}
 use Rattle.plan.specs.Reading.{Accepted, Bytes, IsBelt}
@@ -102,7 +102,7 @@ module _ {b : List ℕ} (ok : Accepted b) where
   route-length s t [] h = omega arith
   route-length s t (e ∷ r) h = omega (arith, h .1, belt-ends ok e (h .0) .1, route-length (e .leads) t r (h .2))
 
-  sum-cost : Bytes b → (r : List Belt) → ((e : Belt) → List·Memᴰ e r → List·Memᴰ e (planOf b .belts)) → cost r ≤ 65535 * length r
+  sum-cost : Bytes b → (r : List Belt) → ((e : Belt) → List·Memᴰ e r → List·Memᴰ e (planOf b .belts)) → cost r ≤ (beltCostLimit - 1) * length r
   sum-cost bytes [] h = omega arith
   sum-cost bytes (e ∷ r) h = omega (arith, belts-cost ok bytes e (h e (List·Memᴰ·head refl)), sum-cost bytes r (λ f m. h f (List·Memᴰ·tail m)))
 

@@ -1,6 +1,5 @@
 -- The least word is the first way: the cheapest way on from a junction, and of equal ones that whose first belt has the lowest index.
 --
---   belt-price     THE BOUND of a belt's cost, as words need it; route-word: so a route costs less than wayLimit
 --   not-earlier    where one route does not come before another, it does not cost less; if as much, its first belt has no lower index
 --   First          what is wanted of the least word v at u: linkLimit times the cost of the way on from u, and the link of its first belt
 --   way-opens      the way on from u begins with an open belt, and goes on as the way on from its head
@@ -14,20 +13,19 @@ use mathlib.Core.Logic.{_⊎_, inl, inr, ⊎-elim}
 use mathlib.Core.Bool.{Bool, true, false, _&&_}
 use mathlib.Core.Option.{Option, none, some, Option·none-ne-some, Option·some-injective}
 use Prim.Native.Nat.{ℕ, _+_, _*_, _-_, _%_, _≤_, _<_}
-use mathlib.Core.List.{List, [], _∷_, List·Memᴰ, head-eq-of-cons-eq}
+use mathlib.Core.List.{List, [], _∷_, head-eq-of-cons-eq}
 use native.Mathlib.Omega.{arith}
-use lib.ListN.{length}
 use lib.Dec.{eqb, ltb}
 use borrow.Author.Tests.{eq-eqb, ltb-false}
 use Rattle.plan.specs.Plan.{Belt, planOf}
 use Rattle.plan.specs.Reading.{Accepted, Bytes}
 use Rattle.plan.specs.Words.{linkLimit, wayLimit, far, linkOf}
 use Rattle.plan.proofs.Lists.{neither}
-use Rattle.plan.proofs.Reading.{plan-sizes, belt-index, belt-ends, belts-cost}
+use Rattle.plan.proofs.Reading.{plan-sizes, belt-index, belt-ends}
 use Rattle.route.specs.Routes.{IsRoute, cost, before, lower}
 use Rattle.route.specs.Subproblems.{Subproblem, admits}
 use Rattle.route.specs.Inner.{remaining, wayOn}
-use Rattle.route.proofs.RouteIndices.{route-length}
+use Rattle.route.proofs.RouteIndices.{route-cheap}
 use Rattle.route.proofs.RouteOrder.{upward-claim}
 use Rattle.route.proofs.SubproblemFirst.{relaxed-some, relaxed-none}
 use Rattle.route.proofs.RelaxOnward.{Owed, Goes, remaining-step, way-route, way-next}
@@ -55,17 +53,6 @@ pub record First (b : List ℕ) (x : Subproblem) (t u v : ℕ) : Type 0 where
   pub link : (e : Belt) (r : List Belt) → wayOn (planOf b) x t u ≡ some (e ∷ r) → v % linkLimit ≡ linkOf e
 
 module _ {b : List ℕ} (ok : Accepted b) (bytes : Bytes b) (x : Subproblem) (t : ℕ) (inside : t ≤ planOf b .junctions) where
-  pub belt-price : (e : Belt) → List·Memᴰ e (planOf b .belts) → e .cost < 4294967296
-  belt-price e m = omega (arith, belts-cost ok bytes e m)
-
-  route-sum : (u : ℕ) (r : List Belt) → IsRoute (planOf b) u t r → cost r ≤ 4294967295 * length r
-  route-sum u [] h = omega arith
-  route-sum u (e ∷ r) h = omega (arith, route-sum (e .leads) r (h .2), belt-price e (h .0))
-
-  -- a route to t is cheap enough for a word
-  pub route-word : (u : ℕ) (r : List Belt) → IsRoute (planOf b) u t r → cost r < wayLimit
-  route-word u r h = omega (arith, route-sum u r h, route-length ok u t r h, plan-sizes ok .1)
-
   module _ (u nearest : ℕ) (cut : Cut b x t u nearest) where
     pub way-opens : (e : Belt) (r : List Belt) → wayOn (planOf b) x t u ≡ some (e ∷ r) → Opens b x u nearest e × (wayOn (planOf b) x t (e .leads) ≡ some r)
     way-opens e r h =
@@ -129,7 +116,7 @@ module _ {b : List ℕ} (ok : Accepted b) (bytes : Bytes b) (x : Subproblem) (t 
           over = over-some ways e r (head-price e (opened .0) ∙ ap restOf (opened .1))
 
           cheap : cost (e ∷ r) < wayLimit
-          cheap = route-word u (e ∷ r) (way-route ok x t u (e ∷ r) h)
+          cheap = omega (arith, route-cheap ok bytes u t (e ∷ r) inside (way-route ok x t u (e ∷ r) h))
 
           low : v ≤ cost (e ∷ r) * linkLimit + linkOf e
           low = omega (arith, over, lowest .below e (opened .0))

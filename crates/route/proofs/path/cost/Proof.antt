@@ -4,6 +4,7 @@ use Prim.Native.Nat.{ℕ, _+_, _*_, _-_, _≤_}
 use native.Mathlib.Omega.{arith}
 use borrow.Author.Needs.{needs}
 use lib.ListN.{length}
+use Rattle.plan.specs.Bounds.{beltCostLimit}
 use Rattle.route.specs.Routes.{cost}
 use Rattle.route.specs.Values.{routeIn}
 use Rattle.route.proofs.RouteBelts.{places, left, left-start, left-next, left-end, at-belt}
@@ -12,7 +13,7 @@ use Rattle.route.proofs.path.cost.Tie as tie
 
 abbrev Inv-loop : tie.InvT-loop
 Inv-loop p route sum₀ k₀ sum k =
-    (route .count ≤ length (route .belts)) × (k ≤ route .count) × (sum ≤ 65535 * k) × (sum + cost (left p route k) ≡ cost (routeIn p route))
+    (route .count ≤ length (route .belts)) × (k ≤ route .count) × (sum ≤ (beltCostLimit - 1) * k) × (sum + cost (left p route k) ≡ cost (routeIn p route))
 
 abbrev μ-loop : tie.MeasureT-loop
 μ-loop p route sum₀ k₀ sum k = route .count - k
