@@ -140,7 +140,8 @@ uint64_t planner_check_plan(const uint8_t *plan, size_t plan_len);
  * The number of the reply, and what is then in out:
  *
  *   0         a route. Its sheet stands in the first `length` bytes of out, the
- *             bytes behind it are as they were
+ *             bytes behind it are as they were. The cost on the sheet can be
+ *             above 2^32
  *   1 to 10   refused; out is as it was
  *   100       no route is permitted; out is as it was
  *   101       the budget is spent, and opened is the budget; out is as it was.

@@ -1,28 +1,28 @@
 //! Fixed plans and sheets with numbers that are written down beforehand: plan P
-//! with its neighbours, plans that tell picks, orders and ties apart, and what is
-//! refused. They hold the library and the tests' own expectations to the same
-//! numbers.
+//! with its neighbours, plans that tell picks, orders and ties apart, costs in both
+//! of their halves, and what is refused. They hold the library and the tests' own
+//! expectations to the same numbers.
 
 use crate::compare::{Answer, Judge, Verdict};
 use crate::enumerate::{self, Limits};
-use crate::plan::{bytes_of, Record};
+use crate::plan::{bytes_of, records_of, Record};
 use crate::refusals::{self, Query, SHEET_MAX};
 use crate::sheet;
 use crate::written::{self, Ending, Named};
 
 /// What a search has to find: belts, cost and setting, none, or spent.
-enum Found {
-    Route(&'static [usize], u64, u64),
+enum Found<'a> {
+    Route(&'a [usize], u64, u64),
     None,
     Spent,
 }
 
 /// Name, records, (s, t, pick, order, budget), what is found, opened.
-type Anchor = (&'static str, Vec<Record>, [u64; 5], Found, u64);
+type Anchor<'a> = (&'static str, Vec<Record>, [u64; 5], Found<'a>, u64);
 
 const ENOUGH: u64 = 1_000_000;
 
-/// Three junctions, belts as (next, to, cost) from index 4, then rules and literals.
+/// Three junctions, belts from index 4, then rules and literals.
 fn plan(modes: u16, heads: [u16; 3], first_rule: u16, above: &[Record]) -> Vec<Record> {
     let mut records: Vec<Record> = vec![[7, 3, modes, first_rule, 4 + above.len() as u16, 0]];
     records.extend(heads.map(|head| [1, head, 0, 0, 0, 0]));
@@ -42,8 +42,15 @@ fn p() -> Vec<Record> {
     p_with(1, &[[3, 0, 8, 0, 0, 0], [4, 9, 0, 0, 4, 0], [4, 0, 0, 0, 6, 0]])
 }
 
+/// P with a belt 5 that costs 65,545.
+fn p_high() -> Vec<Record> {
+    let mut records = p();
+    records[5] = [2, 0, 3, 9, 1, 0];
+    records
+}
+
 /// E1 to E11.
-fn examples() -> Vec<Anchor> {
+fn examples() -> Vec<Anchor<'static>> {
     let mut cheaper = p_with(1, &[]);
     cheaper[5][3] = 7;
     let e9: [Record; 5] =
@@ -66,7 +73,7 @@ fn examples() -> Vec<Anchor> {
 }
 
 /// Modes apart from belts, empty rules, named belts outside of s to t, equal costs.
-fn rules_and_ties() -> Vec<Anchor> {
+fn rules_and_ties() -> Vec<Anchor<'static>> {
     let apart: [Record; 3] = [[3, 0, 8, 0, 0, 0], [4, 9, 1, 1, 4, 0], [4, 0, 0, 0, 4, 0]];
     let p_and_empty: [Record; 4] = [[3, 10, 8, 0, 0, 0], [4, 9, 0, 0, 4, 0], [4, 0, 0, 0, 6, 0], [3, 0, 0, 0, 0, 0]];
     let only_4: [Record; 2] = [[3, 0, 8, 0, 0, 0], [4, 0, 1, 0, 4, 0]];
@@ -92,7 +99,7 @@ fn rules_and_ties() -> Vec<Anchor> {
 }
 
 /// Counts that differ by pick and by order.
-fn picks_and_orders() -> Vec<Anchor> {
+fn picks_and_orders() -> Vec<Anchor<'static>> {
     let belts = [[2, 5, 2, 3, 0, 0], [2, 6, 2, 3, 0, 0], [2, 0, 3, 9, 0, 0], [2, 0, 3, 4, 0, 0]];
     let with = |rules: &[Record]| plan(0, [4, 7, 0], 8, &[&belts[..], rules].concat());
     let not_5_not_7 = [[3, 10, 9, 0, 0, 0], [4, 0, 0, 0, 5, 0], [3, 0, 11, 0, 0, 0], [4, 0, 0, 0, 7, 0]];
@@ -123,6 +130,103 @@ fn picks_and_orders() -> Vec<Anchor> {
     ]
 }
 
+/// Costs in both halves, f4 the high one. Where the halves are exchanged or one is left
+/// out, another route is the cheapest; where routes cost the same, their halves differ.
+fn high_costs() -> Vec<Anchor<'static>> {
+    let with = |belts: &[Record]| plan(1, [4, 6, 0], 0, belts);
+    let high_5 = [P_BELTS[0], [2, 0, 3, 0, 1, 0], P_BELTS[2]];
+    let high_6 = [[2, 5, 2, 0, 0, 0], [2, 0, 3, 2, 0, 0], [2, 0, 3, 0, 1, 0]];
+    let equal = [[2, 5, 2, 65_535, 0, 0], [2, 0, 3, 0, 1, 0], [2, 0, 3, 1, 0, 0]];
+    vec![
+        ("low half 0", with(&high_5), [1, 3, 0, 0, ENOUGH], Found::Route(&[4, 6], 7, 0), 1),
+        ("halves exchanged", with(&high_6), [1, 3, 0, 0, ENOUGH], Found::Route(&[5], 2, 0), 1),
+        ("65535 + 1 and 65536", with(&equal), [1, 3, 0, 0, ENOUGH], Found::Route(&[4, 6], 65_536, 0), 1),
+        ("P with a high half", p_high(), [1, 3, 0, 0, ENOUGH], Found::Route(&[5], 65_545, 0), 5),
+        ("P with a high half, order 1", p_high(), [1, 3, 0, 1, ENOUGH], Found::Route(&[5], 65_545, 0), 5),
+    ]
+}
+
+/// Permitted routes that cost the same, of which the search finds the first one last.
+fn high_ties() -> Vec<Anchor<'static>> {
+    // Belts 4 7, 5 7 and 6 cost 65,536 each. The rule: belt 5, or not belt 7.
+    let at_65536 = [
+        [2, 5, 2, 65_535, 0, 0],
+        [2, 6, 2, 65_535, 0, 0],
+        [2, 0, 3, 0, 1, 0],
+        [2, 0, 3, 1, 0, 0],
+        [3, 0, 9, 0, 0, 0],
+        [4, 10, 1, 0, 5, 0],
+        [4, 0, 0, 0, 7, 0],
+    ];
+    // Belts 4 6, twice 2^31, and 5 7, 2^32 - 1 and 1, cost 2^32. The rule: not belt 4, or not belt 7.
+    let at_2_32 = [
+        [2, 5, 2, 0, 32_768, 0],
+        [2, 0, 2, 65_535, 65_535, 0],
+        [2, 7, 3, 0, 32_768, 0],
+        [2, 0, 3, 1, 0, 0],
+        [3, 0, 9, 0, 0, 0],
+        [4, 10, 0, 0, 4, 0],
+        [4, 0, 0, 0, 7, 0],
+    ];
+    vec![
+        ("tie at 65536", plan(0, [4, 7, 0], 8, &at_65536), [1, 3, 0, 0, ENOUGH], Found::Route(&[5, 7], 65_536, 0), 5),
+        ("tie at 2^32", plan(0, [4, 6, 0], 8, &at_2_32), [1, 3, 0, 0, ENOUGH], Found::Route(&[4, 6], 1 << 32, 0), 5),
+    ]
+}
+
+/// A row of 256 junctions, with a belt of 2^32 - 1 from each to the next one: 257 to 511.
+fn dearest_row() -> Vec<Record> {
+    let mut records: Vec<Record> = vec![[7, 256, 0, 0, 512, 0]];
+    records.extend((257..=511).map(|belt| [1, belt, 0, 0, 0, 0]));
+    records.push([1, 0, 0, 0, 0, 0]);
+    records.extend((2..=256).map(|to| [2, 0, to, 65_535, 65_535, 0]));
+    records
+}
+
+const DEAREST: u64 = 1_095_216_660_225;
+
+/// First records of a sheet for the whole row, and the line that is broken; 0 if none is.
+fn dearest_heads() -> Vec<(Record, u64)> {
+    vec![
+        ([8, 1, 254, 65_535, 65_281, 0], 0),
+        ([8, 1, 0, 65_535, 65_281, 0], 13),
+        ([8, 1, 253, 65_535, 65_281, 0], 13),
+        ([8, 1, 255, 65_535, 65_281, 0], 13),
+        ([8, 1, 65_534, 65_535, 65_281, 0], 13),
+        ([8, 1, 254, 65_534, 65_281, 0], 13),
+        ([8, 1, 254, 65_535, 65_280, 0], 13),
+        ([8, 1, 65_281, 65_535, 254, 0], 13),
+    ]
+}
+
+/// Holds the library to the dearest route of all, and to sheets for it.
+fn hold_dearest(judge: &mut Judge) -> Verdict {
+    let row = dearest_row();
+    let belts: Vec<usize> = (257..=511).collect();
+    for (head, line) in dearest_heads() {
+        let mut sheet = records_of(&sheet::write(&belts, DEAREST, 0));
+        sheet[0] = head;
+        hold_sheet(judge, &row, &sheet, 1, 256, line)?;
+    }
+    hold(judge, ("dearest row", row, [1, 256, 0, 0, ENOUGH], Found::Route(&belts, DEAREST, 0), 1))
+}
+
+/// Costs, and the fields f2 to f4 of the first record of a sheet.
+fn cost_fields() -> [(u64, [u16; 3]); 5] {
+    [(9, [0, 0, 9]), (65_536, [0, 1, 0]), (65_545, [0, 1, 9]), (1 << 32, [1, 0, 0]), (DEAREST, [254, 65_535, 65_281])]
+}
+
+/// Holds the sheets that the tests expect to the written fields.
+fn hold_cost_fields() -> Verdict {
+    for (cost, fields) in cost_fields() {
+        let own = records_of(&sheet::write(&[], cost, 0))[0];
+        if own[2..5] != fields {
+            return Err(format!("the tests write {own:?} and not {fields:?} for a cost of {cost}"));
+        }
+    }
+    Ok(())
+}
+
 /// Records of P that are changed, and the line that is broken then; 0 if none is.
 fn changed_plans() -> Vec<(&'static [(usize, Record)], u64)> {
     vec![
@@ -136,6 +240,10 @@ fn changed_plans() -> Vec<(&'static [(usize, Record)], u64)> {
         (&[(9, [4, 0, 0, 0, 7, 0])], 6),
         (&[(9, [4, 0, 0, 0, 10, 0])], 6),
         (&[(9, [4, 0, 0, 1, 2, 0])], 6),
+        (&[(5, [2, 0, 3, 9, 1, 0])], 0),
+        (&[(5, [2, 0, 3, 65_535, 65_535, 0])], 0),
+        (&[(5, [2, 0, 3, 9, 0, 1])], 3),
+        (&[(5, [2, 0, 3, 9, 1, 1])], 3),
         (&[(5, [2, 6, 3, 9, 0, 0])], 4),
         (&[(5, [2, 6, 3, 9, 0, 0]), (2, [1, 0, 0, 0, 0, 0])], 0),
     ]
@@ -161,6 +269,18 @@ fn sheets() -> Vec<(&'static [Record], u64, u64, u64)> {
     ]
 }
 
+/// The same for P with a belt 5 of 65,545: sheets with other costs are those of wrong readings.
+fn high_sheets() -> Vec<(&'static [Record], u64, u64, u64)> {
+    vec![
+        (&[[8, 1, 0, 1, 9, 0], [5, 0, 5, 0, 0, 0]], 1, 3, 0),
+        (&[[8, 1, 0, 0, 9, 0], [5, 0, 5, 0, 0, 0]], 1, 3, 13),
+        (&[[8, 1, 0, 0, 1, 0], [5, 0, 5, 0, 0, 0]], 1, 3, 13),
+        (&[[8, 1, 0, 9, 1, 0], [5, 0, 5, 0, 0, 0]], 1, 3, 13),
+        (&[[8, 1, 1, 1, 9, 0], [5, 0, 5, 0, 0, 0]], 1, 3, 13),
+        (&[[8, 1, 0, 0, 7, 0], [5, 2, 4, 0, 0, 0], [5, 0, 6, 0, 0, 0]], 1, 3, 14),
+    ]
+}
+
 /// Holds the library and the tests' own predicate to the written lines.
 fn hold_refusals(judge: &mut Judge) -> Verdict {
     for (changes, line) in changed_plans() {
@@ -174,28 +294,45 @@ fn hold_refusals(judge: &mut Judge) -> Verdict {
         }
         judge.plan(&bytes_of(&records), line)?;
     }
-    let plan = refusals::read(&bytes_of(&p())).expect("P is a plan");
     for (records, s, t, line) in sheets() {
-        let own = refusals::check_line(&plan, s, t, &bytes_of(records)).unwrap_or(0);
-        if own != line {
-            return Err(format!("fixed sheet: the tests say {own} and not {line} for {records:?}"));
-        }
-        judge.check(&bytes_of(&p()), s, t, &bytes_of(records), line)?;
+        hold_sheet(judge, &p(), records, s, t, line)?;
+    }
+    for (records, s, t, line) in high_sheets() {
+        hold_sheet(judge, &p_high(), records, s, t, line)?;
     }
     Ok(())
+}
+
+/// Holds the library and the tests' own predicate to the line of a sheet.
+fn hold_sheet(judge: &mut Judge, plan: &[Record], sheet: &[Record], s: u64, t: u64, line: u64) -> Verdict {
+    let (plan, sheet) = (bytes_of(plan), bytes_of(sheet));
+    let read =
+        refusals::read(&plan).map_err(|line| format!("fixed sheet: the tests refuse its plan by line {line}"))?;
+    let own = refusals::check_line(&read, s, t, &sheet).unwrap_or(0);
+    if own != line {
+        return Err(format!("fixed sheet: the tests say {own} and not {line} for {:?}", records_of(&sheet)));
+    }
+    judge.check(&plan, s, t, &sheet, line)
 }
 
 pub fn run(judge: &mut Judge) -> Verdict {
+    hold_cost_fields()?;
     hold_refusals(judge)?;
-    for anchor in examples().into_iter().chain(rules_and_ties()).chain(picks_and_orders()) {
-        let name = anchor.0;
-        hold(judge, anchor).map_err(|message| format!("fixed plan {name}: {message}"))?;
+    for anchors in [examples(), rules_and_ties(), picks_and_orders(), high_costs(), high_ties()] {
+        for anchor in anchors {
+            hold(judge, anchor)?;
+        }
     }
-    Ok(())
+    hold_dearest(judge)
 }
 
 /// Holds the library and the tests' own search to the written numbers.
-fn hold(judge: &mut Judge, (_, records, [s, t, pick, order, budget], found, opened): Anchor) -> Verdict {
+fn hold(judge: &mut Judge, anchor: Anchor) -> Verdict {
+    let name = anchor.0;
+    hold_numbers(judge, anchor).map_err(|message| format!("fixed plan {name}: {message}"))
+}
+
+fn hold_numbers(judge: &mut Judge, (_, records, [s, t, pick, order, budget], found, opened): Anchor) -> Verdict {
     let bytes = bytes_of(&records);
     let plan = refusals::read(&bytes).map_err(|line| format!("the tests refuse it by line {line}"))?;
     let limits = Limits { routes: 100, belts_tried: 1000 };

@@ -100,6 +100,8 @@ impl Case<'_> {
         let bounds = plan.junctions == 256 && records == 2048 && plan.modes == 10 && named.count == 48;
         let found = [
             ("zero costs", !plan.belts.is_empty() && plan.belts.iter().all(|belt| belt.cost == 0)),
+            ("belt cost over 65535", plan.belts.iter().any(|belt| belt.cost > 65_535)),
+            ("belt cost 2^32 - 1", plan.belts.iter().any(|belt| belt.cost == (1 << 32) - 1)),
             ("twins", ends.windows(2).any(|pair| pair[0] == pair[1])),
             ("empty rule", plan.rules.iter().any(|rule| rule.is_empty())),
             ("belt twice in a rule", plan.rules.iter().any(|rule| names_twice(rule, true))),

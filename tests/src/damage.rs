@@ -35,7 +35,8 @@ pub fn all() -> Vec<Damage> {
     add_counts(&mut damages);
     add_heads(&mut damages);
     add_kinds(&mut damages);
-    add_fields(&mut damages);
+    add_zero_fields(&mut damages);
+    add_ranged_fields(&mut damages);
     for holder in HOLDERS {
         add_indices(&mut damages, holder);
     }
@@ -204,10 +205,10 @@ fn above(bytes: &[u8], rng: &mut Rng) -> Option<usize> {
     (first < count(bytes)).then(|| rng.range(first, count(bytes) - 1))
 }
 
-/// Line 3: zero fields and ranged fields of each kind.
-fn add_fields(damages: &mut Vec<Damage>) {
+/// Line 3: zero fields of each kind.
+fn add_zero_fields(damages: &mut Vec<Damage>) {
     let zero_fields: [(&str, u16, &[usize]); 4] =
-        [("junction", 1, &[2, 3, 4, 5]), ("belt", 2, &[4, 5]), ("rule", 3, &[3, 4, 5]), ("literal", 4, &[5])];
+        [("junction", 1, &[2, 3, 4, 5]), ("belt", 2, &[5]), ("rule", 3, &[3, 4, 5]), ("literal", 4, &[5])];
     for (kind_name, kind, numbers) in zero_fields {
         for number in numbers.iter().copied() {
             add(damages, 3, &format!("f{number} of a {kind_name} not zero"), move |bytes, rng| {
@@ -216,6 +217,22 @@ fn add_fields(damages: &mut Vec<Damage>) {
             });
         }
     }
+    // f4 of a belt may be anything, and says nothing of f5: it is zero here, or just what f5 is.
+    add(damages, 3, "f5 of a belt not zero, f4 zero", |bytes, rng| {
+        let index = rng.pick(&of_kind(bytes, 2))?;
+        set_field(bytes, index, 4, 0);
+        put(bytes, index, 5, not_zero(rng))
+    });
+    add(damages, 3, "f5 of a belt not zero, f4 the same", |bytes, rng| {
+        let index = rng.pick(&of_kind(bytes, 2))?;
+        let value = not_zero(rng);
+        set_field(bytes, index, 4, value);
+        put(bytes, index, 5, value)
+    });
+}
+
+/// Line 3: ranged fields of each kind.
+fn add_ranged_fields(damages: &mut Vec<Damage>) {
     add(damages, 3, "f2 of a belt zero", |bytes, rng| {
         let index = rng.pick(&of_kind(bytes, 2))?;
         put(bytes, index, 2, 0)
@@ -510,6 +527,10 @@ fn add_blind(damages: &mut Vec<Damage>) {
         let records = count(bytes);
         let value = [rng.below(4), rng.below(records), records - 1, usize::from(field(bytes, 0, 1))][rng.below(4)];
         put(bytes, rng.below(records), rng.below(6), value as u16)
+    });
+    add(damages, 0, "high half of a cost", |bytes, rng| {
+        let index = rng.pick(&of_kind(bytes, 2))?;
+        put(bytes, index, 4, not_zero(rng))
     });
     add(damages, 0, "two records exchanged", |bytes, rng| {
         let (a, b) = (rng.below(count(bytes)), rng.below(count(bytes)));

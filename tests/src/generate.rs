@@ -183,25 +183,79 @@ fn add_outside_belt(draft: &mut Draft, rng: &mut Rng) -> bool {
         let from = rng.range(1, low - 1);
         (from, rng.range(from + 1, draft.junctions))
     };
-    let cost = rng.next() as u16;
+    let cost = rng.next() as u32;
     draft.belts.push(DraftBelt { from, to, cost });
     true
 }
 
-/// Costs of one class: all zero, all equal, small, the extremes, or any.
+/// Mostly each belt takes one of a few costs, so that routes often cost the same.
 fn set_costs(draft: &mut Draft, rng: &mut Rng) {
-    let class = rng.below(8);
-    let equal = rng.next() as u16;
+    let count = draft.belts.len().max(1);
+    let costs = match rng.below(16) {
+        0..=7 => low_costs(count, rng),
+        8..=14 => high_costs(count, rng),
+        _ => return set_climbs(draft, rng),
+    };
     for belt in &mut draft.belts {
-        belt.cost = match class {
-            0 => 0,
-            1 => equal,
-            2 | 3 => rng.below(4) as u16,
-            4 => [0, 1, 255, 256, 65_535][rng.below(5)],
-            5 => 65_535 - rng.below(3) as u16,
-            6 => rng.below(40) as u16,
-            _ => rng.next() as u16,
-        };
+        belt.cost = costs[rng.below(costs.len())];
+    }
+}
+
+/// Each belt costs what it climbs, so that all routes between two junctions cost the
+/// same, in whatever parts; some belts cost 1 more.
+fn set_climbs(draft: &mut Draft, rng: &mut Rng) {
+    let step = if rng.chance(1, 2) { 131_072 } else { u32::MAX as usize / draft.junctions };
+    let mut heights = vec![0; draft.junctions + 1];
+    for junction in 1..=draft.junctions {
+        heights[junction] = heights[junction - 1] + rng.below(step) as u32;
+    }
+    for belt in &mut draft.belts {
+        let more = u32::from(rng.chance(1, 16));
+        belt.cost = heights[belt.to] - heights[belt.from] + more;
+    }
+}
+
+/// A half of a cost.
+fn half(rng: &mut Rng) -> u32 {
+    rng.below(65_536) as u32
+}
+
+fn cost(high: u32, low: u32) -> u32 {
+    high * 65_536 + low
+}
+
+/// Costs without a high half: all zero, all equal, small, the extremes, or any.
+fn low_costs(count: usize, rng: &mut Rng) -> Vec<u32> {
+    match rng.below(8) {
+        0 => vec![0],
+        1 => vec![half(rng)],
+        2 | 3 => (0..4).collect(),
+        4 => vec![0, 1, 255, 256, 65_535],
+        5 => (65_533..=65_535).collect(),
+        6 => (0..40).collect(),
+        _ => (0..count).map(|_| half(rng)).collect(),
+    }
+}
+
+/// Costs with a high half: around 65,536, up to the most that a belt can cost, or any.
+fn high_costs(count: usize, rng: &mut Rng) -> Vec<u32> {
+    let (one, other) = (half(rng), half(rng));
+    match rng.below(10) {
+        0 => (65_534..=65_537).collect(),
+        // 65,535 and 1 cost as much as 65,536 and 0.
+        1 => vec![0, 1, 65_535, 65_536],
+        // The low half is zero, or the same for all.
+        2 => (0..4).map(|high| cost(high, 0)).collect(),
+        3 => (0..4).map(|high| cost(high, one)).collect(),
+        // The same two halves, exchanged.
+        4 => vec![cost(one, other), cost(other, one)],
+        5 => (0..9).map(|number| cost(number / 3, number % 3)).collect(),
+        // Two such belts cost more than 32 bits can hold.
+        6 => vec![u32::MAX],
+        7 => (u32::MAX - 2..=u32::MAX).collect(),
+        // Twice 2^31 costs as much as 2^32 - 1 and 1.
+        8 => vec![0, 1, 1 << 31, u32::MAX],
+        _ => (0..count).map(|_| rng.next() as u32).collect(),
     }
 }
 

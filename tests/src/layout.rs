@@ -8,7 +8,7 @@ use crate::rng::Rng;
 pub struct DraftBelt {
     pub from: usize,
     pub to: usize,
-    pub cost: u16,
+    pub cost: u32,
 }
 
 /// A plan before its records have indices: a literal's belt is a place in `belts`.
@@ -140,8 +140,9 @@ fn records(draft: &Draft, leaving: &[Vec<usize>], indices: &Indices) -> Vec<Reco
         let chain: Vec<usize> = leaving[junction].iter().map(|place| indices.belts[*place]).collect();
         records[junction] = [1, head(&chain), 0, 0, 0, 0];
         for (turn, place) in leaving[junction].iter().enumerate() {
-            let belt = &draft.belts[*place];
-            records[chain[turn]] = [2, head(&chain[turn + 1..]), belt.to as u16, belt.cost, 0, 0];
+            let DraftBelt { to, cost, .. } = draft.belts[*place];
+            let (low, high) = ((cost % 65_536) as u16, (cost / 65_536) as u16);
+            records[chain[turn]] = [2, head(&chain[turn + 1..]), to as u16, low, high, 0];
         }
     }
     for (rule, index) in indices.rules.iter().enumerate() {

@@ -15,6 +15,7 @@ mod damage;
 mod enumerate;
 mod examples;
 mod generate;
+mod halves;
 mod layout;
 mod plan;
 mod refusals;

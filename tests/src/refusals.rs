@@ -97,7 +97,7 @@ fn line_3(records: &[Record]) -> bool {
             kind == 1 && f2 == 0 && f3 == 0 && f4 == 0 && f5 == 0
         } else {
             match kind {
-                2 => f2 >= 1 && f2 <= junctions && f4 == 0 && f5 == 0,
+                2 => f2 >= 1 && f2 <= junctions && f5 == 0,
                 3 => f3 == 0 && f4 == 0 && f5 == 0,
                 4 => f2 <= 1 && f3 <= 1 && f5 == 0,
                 _ => false,
@@ -243,8 +243,9 @@ fn plan_of(records: &[Record]) -> Plan {
     let mut belts = Vec::new();
     for junction in 1..=junctions {
         for name in chain(records, records[junction][1]) {
-            let [_, _, to, cost, _, _] = records[name];
-            belts.push(Belt { name, from: junction, to: to.into(), cost: cost.into() });
+            let [_, _, to, low, high, _] = records[name];
+            let cost = u64::from(high) * 65_536 + u64::from(low);
+            belts.push(Belt { name, from: junction, to: to.into(), cost });
         }
     }
     belts.sort_by_key(|belt| belt.name);

@@ -4,6 +4,7 @@
 use crate::case::{rank, Case, Scene};
 use crate::compare::{Answer, Verdict};
 use crate::enumerate::{self, Limits, Route};
+use crate::halves;
 use crate::plan::RECORD;
 use crate::refusals::{self, Query, SHEET_MAX};
 use crate::sheet;
@@ -25,6 +26,7 @@ impl Case<'_> {
         };
         self.judge.tally.add("queries", ["s < t", "s = t", "s > t"][usize::from(s >= t) + usize::from(s > t)]);
         self.note_routes(scene, &routes);
+        self.note_halves(scene, &routes);
         let mut counts = Vec::new();
         for (pick, order) in PICKS_AND_ORDERS {
             let (_, count) = written::search(&routes, &scene.named, pick, order, u64::MAX);
@@ -83,9 +85,21 @@ impl Case<'_> {
             ("setting over 0", lowest > 0),
             ("several settings work", several),
             ("cost over 65535", best.cost > 65_535),
+            ("cost over 2^32 - 1", best.cost >= 1 << 32),
         ];
         for (name, _) in found.iter().filter(|(_, found)| *found) {
             tally.add("searches", name);
+        }
+    }
+
+    /// Counts what the halves of costs have to do with the route to be found.
+    fn note_halves(&mut self, scene: &Scene, routes: &[Route]) {
+        let permitted = halves::permitted(&scene.plan, routes);
+        for name in halves::told_apart(&permitted) {
+            self.judge.tally.add("another route by a wrong cost", name);
+        }
+        if halves::tie_over_a_carry(&permitted) {
+            self.judge.tally.add("searches", "equally cheap over a carry");
         }
     }
 

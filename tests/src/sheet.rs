@@ -247,11 +247,13 @@ fn add_costs(damages: &mut Vec<Damage>) {
     add(damages, 13, "cost 65536 more", |sheet, _, _| add_cost(sheet, 1 << 16));
     add(damages, 13, "cost 65536 less", |sheet, _, _| add_cost(sheet, (1 << 48) - (1 << 16)));
     add(damages, 13, "cost 2^32 more", |sheet, _, _| add_cost(sheet, 1 << 32));
+    add(damages, 13, "cost 2^32 less", |sheet, _, _| add_cost(sheet, (1 << 48) - (1 << 32)));
+    add(damages, 13, "cost cut to 32 bits", |sheet, _, rng| set_other(sheet, 0, 2, &[0], rng));
     add(damages, 13, "highest bit of the cost", |sheet, _, _| add_cost(sheet, 1 << 47));
     add(damages, 13, "cost low first", |sheet, _, rng| {
-        let low = field(sheet, 0, 4);
+        let (high, low) = (field(sheet, 0, 2), field(sheet, 0, 4));
         set_other(sheet, 0, 2, &[low], rng)?;
-        put(sheet, 0, 4, 0)
+        put(sheet, 0, 4, high)
     });
 }
 

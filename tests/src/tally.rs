@@ -8,13 +8,10 @@ pub struct Tally {
 }
 
 /// Classes of plans, searches and sheets that a whole run has to reach.
-const CLASSES: [(&str, &[&str]); 10] = [
+const CLASSES: [(&str, &[&str]); 11] = [
     ("junctions", &["1", "2..12", "13..255", "256", "257 (refused)"]),
     ("modes", &["11 (refused)"]),
-    (
-        "records",
-        &["J + 1", "up to 100", "up to 255", "256", "257", "up to 2047", "2048", "2049 (refused)"],
-    ),
+    ("records", &["J + 1", "up to 100", "up to 255", "256", "257", "up to 2047", "2048", "2049 (refused)"]),
     ("named belts", &["0", "1..4", "5..16", "17..47", "48", "49 (refused)"]),
     ("ending", &["route", "none", "spent"]),
     ("steps of the route", &["0", "1", "2..9", "10..254", "255"]),
@@ -45,12 +42,20 @@ const CLASSES: [(&str, &[&str]); 10] = [
             "setting over 0",
             "several settings work",
             "cost over 65535",
+            "cost over 2^32 - 1",
+            "equally cheap over a carry",
         ],
+    ),
+    (
+        "another route by a wrong cost",
+        &["halves exchanged", "high half alone", "low half alone", "no carry between the halves", "sum cut to 32 bits"],
     ),
     (
         "plans",
         &[
             "zero costs",
+            "belt cost over 65535",
+            "belt cost 2^32 - 1",
             "twins",
             "empty rule",
             "belt twice in a rule",

@@ -43,7 +43,7 @@ module _ (b : List ℕ) (r : ℕ) where
 
   belt-form : kind b r ≡ 2 → fits b r ≡ true → BeltForm b r
   unfolding rowOf
-  belt-form e h = let f = fits-fields b r 2 e h in record { kind-2 = e; leads-from = f .1 .0; leads-to = f .1 .1; zero-4 = f .3; zero-5 = f .4 }
+  belt-form e h = let f = fits-fields b r 2 e h in record { kind-2 = e; leads-from = f .1 .0; leads-to = f .1 .1; zero-5 = f .4 }
 
   rule-form : kind b r ≡ 3 → fits b r ≡ true → RuleForm b r
   unfolding rowOf
@@ -59,7 +59,7 @@ module _ (b : List ℕ) (r : ℕ) where
 
   belt-fits : BeltForm b r → fits b r ≡ true
   unfolding rowOf
-  belt-fits e = fields-fit b r 2 (e .kind-2) (tt, (e .leads-from, e .leads-to), tt, e .zero-4, e .zero-5)
+  belt-fits e = fields-fit b r 2 (e .kind-2) (tt, (e .leads-from, e .leads-to), tt, tt, e .zero-5)
 
   rule-fits : RuleForm b r → fits b r ≡ true
   unfolding rowOf

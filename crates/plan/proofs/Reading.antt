@@ -270,7 +270,7 @@ module _ {b : List ℕ} (ok : Accepted b) where
   belt-low = item-low belts
 
   pub belt-cost : Bytes b → (e : ℕ) → beltAt b e .cost < beltCostLimit
-  belt-cost bytes e = field-low b bytes e 3
+  belt-cost bytes e = omega (arith, field-low b bytes e 3, field-low b bytes e 4)
 
   pub belts-cost : Bytes b → (x : Belt) → List·Memᴰ x (planOf b .belts) → x .cost < beltCostLimit
   belts-cost bytes x m = subst (λ (y : Belt). y .cost < beltCostLimit) (sym (belt-of x m .1)) (belt-cost bytes (x .index))

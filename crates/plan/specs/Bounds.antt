@@ -1,7 +1,7 @@
 -- The limits of the format (paper 01), each written once. The code has the same numbers under the same names (src/bounds.rt).
 --
 --   fieldLimit        what a field holds is below it: two bytes
---   beltCostLimit     what a belt costs is below it: one field
+--   beltCostLimit     what a belt costs is below it, 2^32: two fields
 --   recordBytes       the bytes of a record
 --   maxRecords        the most records of a plan
 --   minPlanBytes, maxPlanBytes
@@ -20,7 +20,7 @@ abbrev pub fieldLimit : ℕ
 fieldLimit = 65536
 
 abbrev pub beltCostLimit : ℕ
-beltCostLimit = fieldLimit
+beltCostLimit = fieldLimit * fieldLimit
 
 abbrev pub recordBytes : ℕ
 recordBytes = 12

@@ -1,13 +1,14 @@
--- Plan P of the paper, worked out by computation: it is accepted, and this is what it means. Assumes nothing.
+-- Plan P of the paper, worked out by computation: it is accepted, and this is what it means. Then the costs of some belts. Assumes nothing.
 --
 --   planP       the bytes of plan P
 use mathlib.Core.Path.{_≡_, refl}
 use mathlib.Core.Bool.{false}
-use Prim.Native.Nat.{ℕ}
+use Prim.Native.Nat.{ℕ, _-_}
 use mathlib.Core.List.{List, [], _∷_, _++_}
 use Rattle.plan.specs.declared.read.Literal.the-variants.{OfBelt}
+use Rattle.plan.specs.Bounds.{beltCostLimit}
 use Rattle.plan.specs.Records.{recordOf, rowOf, fits, linksAt, links}
-use Rattle.plan.specs.Plan.{Belt, planOf, named}
+use Rattle.plan.specs.Plan.{Belt, costAt, planOf, named}
 use Rattle.plan.specs.Refusals.{broken1, broken2, broken3, broken4, broken5, broken6, broken7, refusal}
 use Rattle.plan.specs.Limits.{reached}
 
@@ -49,3 +50,10 @@ P-names = refl
 P-reaches : reached planP ≡ 7 ∷ 8 ∷ 9 ∷ 4 ∷ 5 ∷ 6 ∷ []
 unfolding planP reached
 P-reaches = refl
+
+-- the cost of a belt stands in two fields, of which field 4 is the high one: 65,536 and 9, and the largest cost
+cost-two-fields : costAt (recordOf 2 0 3 9 1 0) 0 ≡ 65545
+cost-two-fields = refl
+
+cost-largest : costAt (recordOf 2 0 3 65535 65535 0) 0 ≡ beltCostLimit - 1
+cost-largest = refl

@@ -51,7 +51,6 @@ pub record BeltForm (b : List ℕ) (r : ℕ) : Type 0 where
   pub kind-2 : kind b r ≡ 2
   pub leads-from : 1 ≤ field b r 2
   pub leads-to : field b r 2 ≤ junctions b
-  pub zero-4 : field b r 4 ≡ 0
   pub zero-5 : field b r 5 ≡ 0
 
 pub record RuleForm (b : List ℕ) (r : ℕ) : Type 0 where

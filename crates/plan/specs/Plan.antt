@@ -7,6 +7,7 @@
 --     leaves b e    the junction whose chain has belt e
 --     beltAt b e, literalAt b l, ruleAt b r
 --                   the belt, the literal and the rule of a record; beltRecords b: the records that are belts
+--     costAt b e    the cost of a belt, in two fields: field 4 is the high one
 --   indicesOf es    the indices of the belts es
 --   leaving p j     the belts of p that leave junction j, in rising index
 --   names e l       literal l is about belt e; inRule e rule: some literal of the rule is
@@ -18,7 +19,7 @@
 --   placeIn ps e    the place that such an array has for belt e
 --
 -- Not here: what bytes are refused. Assumes nothing.
-use Prim.Native.Nat.{ℕ, zero, suc, _-_}
+use Prim.Native.Nat.{ℕ, zero, suc, _+_, _*_, _-_}
 use mathlib.Core.Bool.{Bool, true, false}
 use mathlib.Core.List.{List, [], _∷_, _++_, map}
 use lib.ListN.{length, getD, replicate}
@@ -29,7 +30,7 @@ use Rattle.plan.specs.declared.read.Literal.the-variants.{OfBelt, OfMode
 use Rattle.plan.specs.declared.named.Place.{Place}
 use Rattle.plan.specs.declared.named.Place.the-variants.{At, Unnamed}
 use Rattle.plan.specs.Lists.{any, keep, count, mem, upto}
-use Rattle.plan.specs.Bounds.{maxRecords, maxNamed}
+use Rattle.plan.specs.Bounds.{fieldLimit, maxRecords, maxNamed}
 use Rattle.plan.specs.Records.{field, kind, junctions, modes, records, chain}
 
 pub record Belt : Type 0 where
@@ -54,8 +55,11 @@ firstIn f (x ∷ xs) = elim (f x) [ true ↦ x | false ↦ firstIn f xs ]
 abbrev pub leaves : List ℕ → ℕ → ℕ
 leaves b e = firstIn (λ (j : ℕ). mem e (chain b (field b j 1))) (upto 1 (suc (junctions b)))
 
+abbrev pub costAt : List ℕ → ℕ → ℕ
+costAt b e = field b e 4 * fieldLimit + field b e 3
+
 abbrev pub beltAt : List ℕ → ℕ → Belt
-beltAt b e = record { index = e; leaves = leaves b e; leads = field b e 2; cost = field b e 3 }
+beltAt b e = record { index = e; leaves = leaves b e; leads = field b e 2; cost = costAt b e }
 
 abbrev pub beltRecords : List ℕ → List ℕ
 beltRecords b = keep (λ (r : ℕ). eqb (kind b r) 2) (upto (suc (junctions b)) (records b))

@@ -84,7 +84,7 @@ abbrev pub rows : ℕ → List Entry
 rows j =
     entry 7 (Between 1 maxJunctions) (Between 0 maxModes) (Chain 3) Any Unused
     ∷ entry 1 (Chain 2) Unused Unused Unused Unused
-    ∷ entry 2 (Chain 2) (Between 1 j) Any Unused Unused
+    ∷ entry 2 (Chain 2) (Between 1 j) Any Any Unused
     ∷ entry 3 (Chain 3) (Chain 4) Unused Unused Unused
     ∷ entry 4 (Chain 4) (Between 0 1) (Between 0 1) Any Unused
     ∷ []

@@ -1,4 +1,5 @@
 // Readers of an accepted plan. A chain is read by its first record and the next one after a record; the number 0 ends it.
+use crate::bounds::FIELD_LIMIT;
 use crate::record;
 use crate::record::BELT;
 ghost use mathlib.Core.Path.{_≡_};
@@ -112,14 +113,17 @@ pub fn leads_to(p: &[u8], belt: BeltId) -> usize
     at(p, belt.0 as usize, 2) as usize
 }
 
-// The cost of a belt.
+// The cost of a belt. It stands in two fields, of which field 4 is the high one.
 pub fn cost(p: &[u8], belt: BeltId) -> u64
     requires { ⌜ Accepted (now p)
         × IsBelt (now p) (belt .0) ⌝ }
     ensures { λ v. ⌜ (v ≡ beltAt (now (p .entry)) (belt .0) .cost)
         × (v < beltCostLimit) ⌝ }
 {
-    at(p, belt.0 as usize, 3) as u64
+    let e = belt.0 as usize;
+    let high = record::index(p, e, 4);
+    let low = record::index(p, e, 3);
+    (high * FIELD_LIMIT + low) as u64
 }
 
 // The first rule, or RuleId(0).

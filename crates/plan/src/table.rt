@@ -69,7 +69,7 @@ pub fn fits(p: &[u8], junctions: u16, kind: u16, r: usize) -> bool
             zero(p, r, 5),
         ),
         JUNCTION => both(zeros(p, r, 2), zeros(p, r, 4)),
-        BELT => both(ranged(p, r, 2, 1, junctions), zeros(p, r, 4)),
+        BELT => both(zero(p, r, 5), ranged(p, r, 2, 1, junctions)),
         RULE => both(zero(p, r, 3), zeros(p, r, 4)),
         LITERAL => both(
             both(ranged(p, r, 2, 0, 1), ranged(p, r, 3, 0, 1)),

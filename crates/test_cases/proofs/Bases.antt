@@ -48,7 +48,7 @@ module _ (a b c d : List ℕ) (e : ℕ) where
   pub links-next :
       e < 256 →
       c ≡ putRecord b e (fields 1 (256 + e) 0 0 0 0) →
-      d ≡ putRecord c (256 + e) (fields 2 0 (e + 1) 65535 0 0) →
+      d ≡ putRecord c (256 + e) (fields 2 0 (e + 1) 65535 65535 0) →
       putLinks b (upto e 256) ≡ a →
       putLinks d (upto (e + 1) 256) ≡ a
   links-next l h k left =

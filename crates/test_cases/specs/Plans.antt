@@ -54,7 +54,7 @@ putNamed b =
 
 abbrev pub putLinks : List ℕ → List ℕ → List ℕ
 putLinks b [] = b
-putLinks b (j ∷ js) = putLinks (putRecord (putRecord b j (fields 1 (256 + j) 0 0 0 0)) (256 + j) (fields 2 0 (j + 1) 65535 0 0)) js
+putLinks b (j ∷ js) = putLinks (putRecord (putRecord b j (fields 1 (256 + j) 0 0 0 0)) (256 + j) (fields 2 0 (j + 1) 65535 65535 0)) js
 
 unfoldable pub putRow : List ℕ → List ℕ
 putRow b =

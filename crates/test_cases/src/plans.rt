@@ -15,7 +15,7 @@ pub enum Base {
     P,
     // Two junctions, 49 belts from 1 to 2 that cost 1, records 3 to 51, and rule 52, whose literals 53 to 101 each name another belt.
     Named,
-    // 256 junctions in a row: a belt of cost 65535 leads from each to the next. The rule is "not belt 511, or mode 10" of ten modes.
+    // 256 junctions in a row: a belt of the largest cost, 4294967295, leads from each to the next. The rule is "not belt 511, or mode 10" of ten modes.
     Row,
 }
 
@@ -78,7 +78,7 @@ fn put_row(buf: &mut Bytes)
     let mut j: u16 = 1;
     while j < 256 {
         put(buf, j as usize, [1, 256 + j, 0, 0, 0, 0]);
-        put(buf, (256 + j) as usize, [2, 0, j + 1, 65535, 0, 0]);
+        put(buf, (256 + j) as usize, [2, 0, j + 1, 65535, 65535, 0]);
         j += 1;
     }
     put(buf, 256, [1, 0, 0, 0, 0, 0]);

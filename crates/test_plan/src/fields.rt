@@ -31,8 +31,9 @@ fn zeros() {
           junction-f3 120 | 2: 1 6 0 1 0 0\n\
           junction-f4 120 | 3: 1 0 0 0 1 0\n\
           junction-f5 120 | 3: 1 0 0 0 0 1\n\
-          belt-f4 120 | 4: 2 5 2 3 1 0\n\
           belt-f5 120 | 6: 2 0 3 4 0 1\n\
+          belt-f5-256 120 | 4: 2 5 2 3 0 256\n\
+          belt-f5-and-f4 120 | 6: 2 0 3 4 1 1\n\
           rule-f3 120 | 7: 3 0 8 1 0 0\n\
           rule-f4 120 | 7: 3 0 8 0 1 0\n\
           rule-f5 120 | 7: 3 0 8 0 0 1\n\
@@ -50,6 +51,9 @@ fn ranges() {
           belt-to-259 120 | 6: 2 0 259 4 0 0\n\
           belt-cost-0 120 | 6: 2 0 3 0 0 0\n\
           belt-cost-65535 120 | 6: 2 0 3 65535 0 0\n\
+          belt-cost-65536 120 | 6: 2 0 3 0 1 0\n\
+          belt-f4 120 | 4: 2 5 2 3 1 0\n\
+          belt-cost-largest 120 | 6: 2 0 3 65535 65535 0\n\
           literal-f2-1 120 | 9: 4 0 1 0 6 0\n\
           literal-f2-2 120 | 9: 4 0 2 0 6 0\n\
           literal-f2-256 120 | 9: 4 0 256 0 6 0\n\

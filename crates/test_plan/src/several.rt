@@ -19,17 +19,17 @@ fn pairs() {
         Base::P,
         b"field-then-chain 120 | 1: 1 4 1 0 0 0; 8: 4 0 0 0 4 0\n\
           chain-then-field 120 | 1: 1 10 0 0 0 0; 9: 4 0 0 0 6 1\n\
-          field-then-belt 120 | 4: 2 5 2 3 1 0; 6: 2 0 2 4 0 0\n\
+          field-then-belt 120 | 4: 2 5 2 3 0 1; 6: 2 0 2 4 0 0\n\
           belt-then-field 120 | 4: 2 5 1 3 0 0; 9: 4 0 2 0 6 0\n\
           chain-then-belt 120 | 0: 7 3 1 0 10 0; 6: 2 0 2 4 0 0\n\
           belt-then-chain 120 | 4: 2 5 1 3 0 0; 8: 4 0 0 0 4 0\n\
-          field-then-literal 120 | 4: 2 5 2 3 1 0; 9: 4 0 0 0 0 0\n\
+          field-then-literal 120 | 4: 2 5 2 3 0 1; 9: 4 0 0 0 0 0\n\
           chain-then-literal 120 | 5: 2 5 3 9 0 0; 8: 4 9 0 0 0 0\n\
           belt-then-literal 120 | 6: 2 0 2 4 0 0; 9: 4 0 0 0 0 0\n",
     );
     cases(
         Base::Shuffled,
-        b"literal-then-field 120 | 5: 4 6 0 0 0 0; 9: 2 0 3 4 1 0\n\
+        b"literal-then-field 120 | 5: 4 6 0 0 0 0; 9: 2 0 3 4 0 1\n\
           literal-then-chain 120 | 5: 4 6 0 0 0 0; 8: 2 8 3 9 0 0\n\
           literal-then-belt 120 | 5: 4 6 0 0 0 0; 9: 2 0 2 4 0 0\n",
     );

@@ -15,9 +15,9 @@ pub fn put_step(buf: &mut Bytes, k: usize, belt: u16) {
     }
 }
 
-// The sheet of the whole row. 255 times 65535 is 254 times 65536 and 65281; mode 10 counts 512.
+// The sheet of the whole row. 255 times 4294967295 is 254 times 4294967296, and 65535 times 65536, and 65281; mode 10 counts 512.
 fn put_row_sheet(buf: &mut Bytes) {
-    put(buf, 0, [8, 0, 0, 254, 65281, 512]);
+    put(buf, 0, [8, 0, 254, 65535, 65281, 512]);
     let mut k: u16 = 1;
     while k < 256 {
         put_step(buf, k as usize, 256 + k);

@@ -1,6 +1,7 @@
 -- `plan::table::fits` meets its contract: the tests of each arm are those of its row. Assumes nothing.
 use mathlib.Core.Path.{_≡_, sym, _∙_, ap}
-use mathlib.Core.Bool.{false, and-true, and-assoc}
+use mathlib.Core.Bool.{false, and-true, and-assoc, and-comm}
+use lib.Dec.{eqb}
 use borrow.Author.Tests.{ne-eqb}
 use borrow.Author.Needs.{needs}
 use Rattle.plan.specs.Lists.{mem, within}
@@ -39,20 +40,20 @@ zeros-requires-2 c κs = search needs
 both-requires-3 : tie.Need-both-requires-3
 both-requires-3 c κs = search needs
 
+zero-requires-2 : tie.Need-zero-requires-2
+zero-requires-2 c κs = search needs
+
 ranged-requires-3 : tie.Need-ranged-requires-3
 ranged-requires-3 c κs = search needs
-
-zeros-requires-3 : tie.Need-zeros-requires-3
-zeros-requires-3 c κs = search needs
 
 both-requires-4 : tie.Need-both-requires-4
 both-requires-4 c κs = search needs
 
-zero-requires-2 : tie.Need-zero-requires-2
-zero-requires-2 c κs = search needs
+zero-requires-3 : tie.Need-zero-requires-3
+zero-requires-3 c κs = search needs
 
-zeros-requires-4 : tie.Need-zeros-requires-4
-zeros-requires-4 c κs = search needs
+zeros-requires-3 : tie.Need-zeros-requires-3
+zeros-requires-3 c κs = search needs
 
 both-requires-5 : tie.Need-both-requires-5
 both-requires-5 c κs = search needs
@@ -66,8 +67,8 @@ ranged-requires-5 c κs = search needs
 both-requires-6 : tie.Need-both-requires-6
 both-requires-6 c κs = search needs
 
-zero-requires-3 : tie.Need-zero-requires-3
-zero-requires-3 c κs = search needs
+zero-requires-4 : tie.Need-zero-requires-4
+zero-requires-4 c κs = search needs
 
 both-requires-7 : tie.Need-both-requires-7
 both-requires-7 c κs = search needs
@@ -94,7 +95,10 @@ returns-3 c =
     let arm = c .before .before .before in
     let start = arm .before .before in
     let fit = fits-as (start .args .p .now) (start .args .r) 2 (sym (start .pre .1) ∙ arm .match .keys3) in
-    simp (c .both4 .ensures, c .before .before .ranged3 .ensures ∙ ap (within 1 (field (start .args .p .now) (start .args .r) 2)) (start .pre .0), c .before .zeros3 .ensures, fit, and-assoc, and-true)
+    let b = start .args .p .now in
+    let r = start .args .r in
+    let to = c .before .ranged3 .ensures ∙ ap (within 1 (field b r 2)) (start .pre .0) in
+    simp (c .both4 .ensures, c .before .before .zero2 .ensures, to, and-comm (eqb (field b r 5) 0) (within 1 (field b r 2) (field b 0 1)), fit, and-true)
 
 returns-4 : tie.Need-returns-4
 unfolding rowOf
@@ -102,7 +106,7 @@ returns-4 c =
     let arm = c .before .before .before in
     let start = arm .before .before in
     let fit = fits-as (start .args .p .now) (start .args .r) 3 (sym (start .pre .1) ∙ arm .match .keys4) in
-    simp (c .both5 .ensures, c .before .before .zero2 .ensures, c .before .zeros4 .ensures, fit, and-true)
+    simp (c .both5 .ensures, c .before .before .zero3 .ensures, c .before .zeros3 .ensures, fit, and-true)
 
 returns-5 : tie.Need-returns-5
 unfolding rowOf
@@ -110,7 +114,7 @@ returns-5 c =
     let arm = c .before .before .before .before .before in
     let start = arm .before .before in
     let fit = fits-as (start .args .p .now) (start .args .r) 4 (sym (start .pre .1) ∙ arm .match .keys5) in
-    simp (c .both7 .ensures, c .before .before .both6 .ensures, c .before .before .before .before .ranged4 .ensures, c .before .before .before .ranged5 .ensures, c .before .zero3 .ensures, fit, and-assoc, and-true)
+    simp (c .both7 .ensures, c .before .before .both6 .ensures, c .before .before .before .before .ranged4 .ensures, c .before .before .before .ranged5 .ensures, c .before .zero4 .ensures, fit, and-assoc, and-true)
 
 returns-6 : tie.Need-returns-6
 returns-6 c =
@@ -134,16 +138,16 @@ fits-spec =
     zeros-requires
     zeros-requires-2
     both-requires-3
-    ranged-requires-3
-    zeros-requires-3
-    both-requires-4
     zero-requires-2
-    zeros-requires-4
+    ranged-requires-3
+    both-requires-4
+    zero-requires-3
+    zeros-requires-3
     both-requires-5
     ranged-requires-4
     ranged-requires-5
     both-requires-6
-    zero-requires-3
+    zero-requires-4
     both-requires-7
     returns
     returns-2
