@@ -55,7 +55,7 @@ fn fields_sound(records: &[Record]) -> bool {
     let top = records[0][1];
     let junction_sound = |r: &Record| r[0] == JUNCTION && r[2..] == [0; 4];
     let other_sound = |r: &Record| match r[0] {
-        BELT => (1..=top).contains(&r[2]) && r[4..] == [0; 2],
+        BELT => r[5] == 0 && (1..=top).contains(&r[2]),
         RULE => r[3..] == [0; 3],
         LITERAL => r[2] <= 1 && r[3] <= 1 && r[5] == 0,
         _ => false,

@@ -1,7 +1,7 @@
 //! The benchmark's rows: which plan, which query.
 
 use crate::check;
-use crate::plans::spec::Graph::{Local, Scattered, SideLine};
+use crate::plans::spec::Graph::{Dear, Local, Scattered, SideLine};
 use crate::plans::spec::Rules::{Bans, Covers, Mixed, Modes};
 use crate::plans::spec::{Network, Size, Spec, LARGEST};
 use crate::query::Query;
@@ -32,6 +32,7 @@ const FAN_8: Network = Network { junctions: 128, belts: 1_000, graph: Local(20) 
 const NARROW: Network = Network { junctions: 256, belts: LARGEST, graph: Local(6) };
 const BIG: Network = Network { junctions: 256, belts: LARGEST, graph: Local(16) };
 const WIDE: Network = Network { junctions: 256, belts: LARGEST, graph: Local(255) };
+const DEAREST: Network = Network { junctions: 256, belts: LARGEST, graph: Dear(16) };
 const STREWN: Network = Network { junctions: 256, belts: LARGEST, graph: Scattered(16) };
 const SIDE: Network = Network { junctions: 256, belts: LARGEST, graph: SideLine(16) };
 
@@ -96,6 +97,7 @@ fn largest() -> Vec<Row> {
         row("largest one opened", BIG.rules(0, 12, Bans(12)), ask(1, 256, 0, 0, AMPLE)),
         row("largest few named", BIG.rules(3, 6, Covers(3)), ask(1, 256, 0, 1, AMPLE)),
         row("largest covers", BIG.rules(0, 12, Covers(3)), ask(1, 256, 0, 0, AMPLE)),
+        row("largest dear", DEAREST.rules(0, 12, Covers(3)), ask(1, 256, 0, 0, AMPLE)),
         row("largest scattered", STREWN.rules(0, 12, Covers(3)), ask(1, 256, 0, 0, AMPLE)),
         row("largest 48 covers", BIG.rules(1, 48, Covers(3)), ask(1, 256, 1, 1, 200_000)),
         row("largest 48 mixed", BIG.rules(2, 48, Mixed(48)), ask(1, 256, 2, 0, 50_000)),
@@ -145,6 +147,8 @@ pub fn plans() -> Vec<PlanRow> {
 #[cfg(test)]
 mod tests {
     use super::*;
+    use crate::baseline;
+    use crate::records::{self, SHEET_MAX};
 
     fn example(name: &str) -> Result<Row, String> {
         let folder = Path::new(env!("CARGO_MANIFEST_DIR")).join("../examples");
@@ -159,6 +163,24 @@ mod tests {
         let size = Size { junctions: 3, belts: 3, rules: 1, named: 2, modes: 1 };
         assert_eq!(row.size, Some(size));
         assert_eq!(example("refused-5.plan").expect("a refused plan").size, None);
+    }
+
+    /// Dear belts change nothing but the cost, which is over 2^32.
+    #[test]
+    fn dear_row() {
+        let rows = searches();
+        let answer = |name: &str| {
+            let row = rows.iter().find(|row| row.name == name).expect(name);
+            let mut out = [0; SHEET_MAX];
+            let answer = baseline::search(&row.plan, &row.query, &mut out);
+            (answer, records::decode(&out))
+        };
+        let (low_answer, low_sheet) = answer("largest covers");
+        let (answer, sheet) = answer("largest dear");
+        assert_eq!(answer, low_answer);
+        assert_eq!(sheet[1..], low_sheet[1..]);
+        assert_eq!(low_sheet[0][2], 0);
+        assert!(sheet[0][2] > 0);
     }
 
     #[test]

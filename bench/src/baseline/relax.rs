@@ -4,12 +4,12 @@
 use super::depot::{Depot, Row};
 use super::words::{cost, follow, head, of_cost, part};
 
-/// Dearer than any route: 255 belts of 65,535 stay far below, and adding a belt
-/// does not overflow.
-const UNREACHED: u32 = u32::MAX / 2;
+/// Dearer than any route: 255 belts of 2^32 - 1 stay below, and a word has room for
+/// this and a belt more.
+const UNREACHED: u64 = 1 << 40;
 
 /// The bound that every route stays within.
-pub const UNBOUNDED: u32 = UNREACHED - 1;
+pub const UNBOUNDED: u64 = UNREACHED - 1;
 
 #[derive(Clone, Copy)]
 pub struct Subproblem {
@@ -46,7 +46,7 @@ impl<'a> Relaxation<'a> {
     }
 
     /// The relaxed route's cost, if there is a relaxed route within the bound.
-    pub fn cost(&mut self, sub: &Subproblem, bound: u32) -> Option<u32> {
+    pub fn cost(&mut self, sub: &Subproblem, bound: u64) -> Option<u64> {
         if self.s > self.t || sub.required & !self.inside != 0 {
             return None;
         }
@@ -65,7 +65,7 @@ impl<'a> Relaxation<'a> {
 
     /// Goes on from the last cut to the tail of a required belt, the next cut. None
     /// if the belt leads past the last one, or the way over it is not within the bound.
-    fn require(&mut self, place: usize, cut: usize, forbidden: u64, bound: u32) -> Option<usize> {
+    fn require(&mut self, place: usize, cut: usize, forbidden: u64, bound: u64) -> Option<usize> {
         let (word, tail) = self.depot.named_belt(place);
         let head = head(word);
         if head > cut {

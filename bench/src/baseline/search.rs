@@ -7,7 +7,7 @@ use crate::query::Query;
 
 /// A permitted route.
 pub struct Best {
-    pub cost: u32,
+    pub cost: u64,
     pub belts: Vec<u16>,
     pub setting: u16,
 }

@@ -7,7 +7,8 @@ use crate::records::{encode, SHEET, SIZE, STEP};
 pub fn write(best: &Best, out: &mut [u8]) -> usize {
     let Best { cost, belts, setting } = best;
     let first = u16::from(!belts.is_empty());
-    encode([SHEET, first, 0, (cost >> 16) as u16, *cost as u16, *setting], &mut out[..SIZE]);
+    let [high, middle, low] = [cost >> 32, cost >> 16, *cost].map(|part| part as u16);
+    encode([SHEET, first, high, middle, low, *setting], &mut out[..SIZE]);
     let steps = out[SIZE..].chunks_exact_mut(SIZE);
     for (place, (bytes, &belt)) in steps.zip(belts).enumerate() {
         let next = if place + 1 == belts.len() { 0 } else { place as u16 + 2 };

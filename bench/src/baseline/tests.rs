@@ -106,6 +106,77 @@ fn twin_belts() {
     expect_route(&plan, Query { t: 2, ..QUERY }, 3, &belt_4);
 }
 
+/// Plan P with other costs, each as its low and its high half.
+fn with_costs(costs: [[u16; 2]; 3]) -> [Record; 10] {
+    let mut records = P;
+    for (record, [low, high]) in records[4..7].iter_mut().zip(costs) {
+        record[3] = low;
+        record[4] = high;
+    }
+    records
+}
+
+/// A cost is f4 * 65,536 + f3.
+#[test]
+fn costs_have_two_halves() {
+    let belt_5 = [[8, 1, 0, 1, 9, 0], [5, 0, 5, 0, 0, 0]];
+    expect_route(&with_costs([[3, 0], [9, 1], [4, 0]]), QUERY, 5, &belt_5);
+    let free = |costs| {
+        let mut records = with_rules(&[]);
+        records[4..7].copy_from_slice(&with_costs(costs)[4..7]);
+        records
+    };
+    // By the low halves belt 5 would cost less.
+    expect_route(&free([[3, 0], [0, 1], [4, 0]]), QUERY, 1, &belts_4_6(0));
+    // By the low halves belts 4 and 6 would cost 0, and with the halves exchanged 1.
+    let belt_5 = [[8, 1, 0, 0, 2, 0], [5, 0, 5, 0, 0, 0]];
+    expect_route(&free([[0, 0], [2, 0], [0, 1]]), QUERY, 1, &belt_5);
+    // 65,535 and 1 cost as much as 65,536.
+    let carried = [[8, 1, 0, 1, 0, 0], [5, 2, 4, 0, 0, 0], [5, 0, 6, 0, 0, 0]];
+    expect_route(&free([[65_535, 0], [0, 1], [1, 0]]), QUERY, 1, &carried);
+    let belt_5 = [[8, 1, 0, 1, 0, 0], [5, 0, 5, 0, 0, 0]];
+    expect_route(&free([[65_535, 0], [0, 1], [2, 0]]), QUERY, 1, &belt_5);
+}
+
+/// Belts 4 and 6, twice 2^31, cost as much as 5 and 7, 2^32 - 1 and 1. The rule: not
+/// belt 4, or not belt 7. The route with the lower belt is found last.
+#[test]
+fn equal_costs_of_33_bits() {
+    let plan = [
+        [7, 3, 0, 8, 11, 0],
+        [1, 4, 0, 0, 0, 0],
+        [1, 6, 0, 0, 0, 0],
+        [1, 0, 0, 0, 0, 0],
+        [2, 5, 2, 0, 32_768, 0],
+        [2, 0, 2, 65_535, 65_535, 0],
+        [2, 7, 3, 0, 32_768, 0],
+        [2, 0, 3, 1, 0, 0],
+        [3, 0, 9, 0, 0, 0],
+        [4, 10, 0, 0, 4, 0],
+        [4, 0, 0, 0, 7, 0],
+    ];
+    let sheet = [[8, 1, 1, 0, 0, 0], [5, 2, 4, 0, 0, 0], [5, 0, 6, 0, 0, 0]];
+    expect_route(&plan, QUERY, 5, &sheet);
+}
+
+/// 256 junctions, and from each of the first ones a belt of 2^32 - 1 to the next one.
+fn dearest_row(belts: u16) -> Vec<Record> {
+    let mut records = vec![[7, 256, 0, 0, 257 + belts, 0]];
+    records.extend((0..256).map(|i| [1, if i < belts { 257 + i } else { 0 }, 0, 0, 0, 0]));
+    records.extend((0..belts).map(|i| [2, 0, i + 2, 65_535, 65_535, 0]));
+    records
+}
+
+/// No route is dearer than one of 255 belts at 2^32 - 1, and it is a route.
+#[test]
+fn dearest_route() {
+    let mut sheet = vec![[8, 1, 254, 65_535, 65_281, 0]];
+    sheet.extend((1..=255).map(|i| [5, if i < 255 { i + 1 } else { 0 }, 256 + i, 0, 0, 0]));
+    let query = Query { t: 256, ..QUERY };
+    expect_route(&dearest_row(255), query, 1, &sheet);
+    expect_no_route(&dearest_row(254), query, NONE, 1);
+}
+
 /// Plan P with the belt from 2 ahead of those from 1: the pick goes by index, and
 /// not by junction.
 #[test]
@@ -139,6 +210,8 @@ fn plan_refusals() {
     assert_eq!(refused(6, 2, 0), 3);
     assert_eq!(refused(6, 2, 4), 3);
     assert_eq!(refused(9, 5, 1), 3);
+    assert_eq!(refused(5, 4, 1), 0);
+    assert_eq!(refused(5, 5, 1), 3);
     assert_eq!(refused(5, 1, 6), 4);
     assert_eq!(refused(1, 1, 10), 4);
     assert_eq!(refused(6, 2, 2), 5);

@@ -2,12 +2,13 @@
 //!
 //! Of two ways on from a junction, each the cost of the rest and a word added up,
 //! the lesser is the cheaper one, or that with the lower belt if both cost the same.
-//! Junctions are counted from 0 here, so that they fit into a byte.
+//! Junctions are counted from 0 here, so that they fit into a byte. A route costs
+//! less than 2^40, so a way fits into 59 bits.
 
 /// The bits of a word below its cost: the link, index * 2^8 + (head - 1).
 const LINK_BITS: u32 = 19;
 
-pub fn word(index: usize, head: u16, cost: u16) -> u64 {
+pub fn word(index: usize, head: u16, cost: u32) -> u64 {
     u64::from(cost) << LINK_BITS | (index as u64) << 8 | u64::from(head - 1)
 }
 
@@ -15,13 +16,13 @@ pub fn head(word: u64) -> usize {
     usize::from(word as u8)
 }
 
-pub fn cost(word: u64) -> u32 {
-    (word >> LINK_BITS) as u32
+pub fn cost(word: u64) -> u64 {
+    word >> LINK_BITS
 }
 
 /// A way that costs so much, with no belt yet.
-pub fn of_cost(cost: u32) -> u64 {
-    u64::from(cost) << LINK_BITS
+pub fn of_cost(cost: u64) -> u64 {
+    cost << LINK_BITS
 }
 
 /// A way in its two parts: the cost, left where it stands, and the link.

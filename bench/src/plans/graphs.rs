@@ -12,6 +12,15 @@ pub fn local(rng: &mut Rng, junctions: usize, belts: usize, reach: usize) -> Vec
     })
 }
 
+/// The same belts, each a million times as dear: their costs have two halves, and
+/// those of long routes more than 32 bits.
+pub fn dear(mut belts: Vec<Belt>) -> Vec<Belt> {
+    for belt in &mut belts {
+        belt.cost = belt.cost.checked_mul(1_000_003).expect("a cost of 32 bits");
+    }
+    belts
+}
+
 /// Every `step`th junction from 1 on stands on a side line that meets the others
 /// only at the last junction: from 1 few junctions can be reached.
 pub fn side_line(rng: &mut Rng, junctions: usize, belts: usize, step: usize) -> Vec<Belt> {
@@ -39,7 +48,7 @@ fn network(
             let to = head(rng, from, nth);
             // The cost grows with the length, so that no belt is hopeless.
             let cost = (to - from) * rng.between(60, 140);
-            made.push(Belt { from, to, cost: cost as u16 });
+            made.push(Belt { from, to, cost: cost as u32 });
         }
     }
     made

@@ -12,7 +12,7 @@ use spec::Size;
 pub struct Belt {
     pub from: usize,
     pub to: usize,
-    pub cost: u16,
+    pub cost: u32,
 }
 
 #[derive(Clone, Copy)]
@@ -117,7 +117,8 @@ impl Draft {
             match item {
                 Item::Belt(belt) => {
                     let Belt { from, to, cost } = self.belts[belt];
-                    put(at, [BELT, leaving[from], to as u16, cost, 0, 0]);
+                    let (low, high) = (cost as u16, (cost >> 16) as u16);
+                    put(at, [BELT, leaving[from], to as u16, low, high, 0]);
                     leaving[from] = at;
                 }
                 Item::Rule(rule) => {

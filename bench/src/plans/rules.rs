@@ -18,7 +18,7 @@ pub fn cheap_belts(
         (0..belts.len()).filter(|&place| span.contains(&belts[place].from)).collect();
     places.sort_by_key(|&place| {
         let belt = belts[place];
-        1_000 * usize::from(belt.cost) / (belt.to - belt.from)
+        1_000 * belt.cost as usize / (belt.to - belt.from)
     });
     places.truncate(count.max(places.len() / 3));
     rng.shuffle(&mut places);

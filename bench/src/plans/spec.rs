@@ -14,6 +14,8 @@ pub enum Graph {
     Local(usize),
     /// As Local; the records above the junctions stand in random order.
     Scattered(usize),
+    /// As Local, with dear belts.
+    Dear(usize),
     /// Every so many junctions stand on a side line.
     SideLine(usize),
 }
@@ -58,6 +60,7 @@ impl Network {
             Graph::Local(reach) | Graph::Scattered(reach) => {
                 graphs::local(rng, self.junctions, belts, reach)
             }
+            Graph::Dear(reach) => graphs::dear(graphs::local(rng, self.junctions, belts, reach)),
             Graph::SideLine(step) => graphs::side_line(rng, self.junctions, belts, step),
         }
     }
