@@ -1,4 +1,5 @@
--- The limits of the format (paper 01), each written once. The code has the same numbers under the same names (src/bounds.rt).
+-- The limits of the format (paper 01, and for costs K1 of paper 02), each written once. The code has the same numbers under the same names
+-- (src/bounds.rt), but for beltCostLimit, since it compares no cost with that.
 --
 --   fieldLimit        what a field holds is below it: two bytes
 --   beltCostLimit     what a belt costs is below it, 2^32: two fields

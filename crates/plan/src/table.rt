@@ -69,6 +69,7 @@ pub fn fits(p: &[u8], junctions: u16, kind: u16, r: usize) -> bool
             zero(p, r, 5),
         ),
         JUNCTION => both(zeros(p, r, 2), zeros(p, r, 4)),
+        // Field 5 first: behind the range, the compiler would join the end of this arm to that of literals, by a jump more.
         BELT => both(zero(p, r, 5), ranged(p, r, 2, 1, junctions)),
         RULE => both(zero(p, r, 3), zeros(p, r, 4)),
         LITERAL => both(
