@@ -44,9 +44,14 @@ extern "C" {
 #define PLANNER_STACK 65536
 
 /*
- * The numbers that the functions answer. Lines of the refusal table are tried in
- * rising order over the whole plan, and the first broken one is answered.
- * Whatever is refused, no lent byte has changed.
+ * The numbers that the functions answer. Each function has a list of lines of the
+ * refusal table. It answers the first broken line in its list, over the whole plan;
+ * the numbers in a list need not rise. Whatever is refused, no lent byte has
+ * changed. The lists:
+ *
+ *   planner_check_plan    1 to 7
+ *   planner_search        1 to 8, 15, 9, 10
+ *   planner_check_sheet   1 to 8, 15, 11 to 14
  */
 enum planner_number {
     /* Yes: a plan, a route, an accepted sheet. */
@@ -82,8 +87,12 @@ enum planner_number {
     PLANNER_NOT_A_ROUTE = 12,
     /* The sheet's cost is not the sum of its belts' costs. */
     PLANNER_WRONG_COST = 13,
-    /* A rule is not met by the sheet's belts under its setting. */
+    /* A rule is not met by the sheet's belts under its setting, or the setting breaks
+     * the lock. */
     PLANNER_UNMET_RULE = 14,
+    /* mask has a bit for a mode that the plan does not have, or values has a bit that
+     * mask does not have. */
+    PLANNER_WRONG_LOCK = 15,
 
     /* planner_search: no route from s to t is permitted. */
     PLANNER_NONE = 100,
@@ -92,17 +101,25 @@ enum planner_number {
 };
 
 /*
- * What is asked: the junctions s and t, from 1, and for the search
+ * What is asked: the junctions s and t, from 1, and the lock. A lock says which
+ * modes the depot sets, and how; the planner may not choose these. Bit m-1 is for
+ * mode m:
+ *
+ *   mask      the modes that are locked; 0 locks none
+ *   values    those of them that are locked on; the others are locked off
+ *
+ * A setting agrees with the lock if it has every locked mode as the lock has it:
+ * (setting & mask) == values. A route is permitted if a setting that agrees with
+ * the lock meets every rule. For the search also
  *
  *   pick      which belt a subproblem is branched on: 0 the lowest, 1 the one in
  *             most rules, 2 the lowest on the relaxed route
  *   order     which of the two subproblems that this makes is opened next: 0 the
  *             one that forbids the belt, 1 the one that requires it
  *   budget    how many subproblems may be opened, 1 or more. With k named belts
- *             2^(k+1) - 1 is always enough
+ *             2^(k+1) - 1 is always enough, whatever the lock
  *
- * mask, values and minute are for later versions. Nothing looks at them yet; a
- * caller sets them to 0.
+ * minute is for later versions. Nothing looks at it yet; a caller sets it to 0.
  */
 struct planner_query {
     uint64_t s, t, pick, order, budget, mask, values, minute;
@@ -129,8 +146,10 @@ uint64_t planner_check_plan(const uint8_t *plan, size_t plan_len);
 
 /*
  * Finds the cheapest permitted route from s to t; of equally cheap ones the
- * first by its belts. Neither pick nor order changes which route is found, or
- * that there is none, but how many subproblems are opened to know it.
+ * first by its belts. Its sheet has the lowest setting that agrees with the lock
+ * and meets every rule, so a mode that is locked on is on there even if no rule
+ * names it. Neither pick nor order changes which route is found, or that there
+ * is none, but how many subproblems are opened to know it.
  *
  *   plan, plan_len   any bytes; read
  *   query            any numbers
@@ -139,24 +158,25 @@ uint64_t planner_check_plan(const uint8_t *plan, size_t plan_len);
  *
  * The number of the reply, and what is then in out:
  *
- *   0         a route. Its sheet stands in the first `length` bytes of out, the
- *             bytes behind it are as they were. The cost on the sheet can be
- *             above 2^32
- *   1 to 10   refused; out is as it was
- *   100       no route is permitted; out is as it was
- *   101       the budget is spent, and opened is the budget; out is as it was.
- *             It says nothing of routes: ask with a larger budget
+ *   0             a route. Its sheet stands in the first `length` bytes of out,
+ *                 the bytes behind it are as they were. The cost on the sheet can
+ *                 be above 2^32
+ *   1 to 10, 15   refused; out is as it was
+ *   100           no route is permitted; out is as it was
+ *   101           the budget is spent, and opened is the budget; out is as it was.
+ *                 It says nothing of routes: ask with a larger budget
  */
 struct planner_reply planner_search(const uint8_t *plan, size_t plan_len,
                                     struct planner_query query, uint8_t *out, size_t out_len);
 
 /*
- * Checks a route sheet against a plan: 0 if its belts are a route from s to t,
- * its cost is their sum and every rule is met under its setting; else 1 to 8
- * or 11 to 14. The route need not be the cheapest, nor the setting the lowest.
+ * Checks a route sheet against a plan and a lock: 0 if its belts are a route from
+ * s to t, its cost is their sum, and its setting agrees with the lock and meets
+ * every rule; else 1 to 8 or 11 to 15. The route need not be the cheapest, nor
+ * the setting the lowest. The sheet does not say under which lock it was found.
  *
  *   plan, plan_len     any bytes; read
- *   query              of it only s and t are looked at
+ *   query              of it only s, t, mask and values are looked at
  *   sheet, sheet_len   any bytes; read. The sheet and nothing behind it
  */
 uint64_t planner_check_sheet(const uint8_t *plan, size_t plan_len,
@@ -199,7 +219,9 @@ static inline const char *planner_message(uint64_t number)
     case PLANNER_WRONG_COST:
         return "cost differs from the sum";
     case PLANNER_UNMET_RULE:
-        return "a rule not met under the sheet's setting";
+        return "a rule not met under the sheet's setting, or a setting that breaks the lock";
+    case PLANNER_WRONG_LOCK:
+        return "mask with a bit at or above M, or a value with a bit outside the mask";
     case PLANNER_NONE:
         return "no route is permitted";
     case PLANNER_SPENT:

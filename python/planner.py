@@ -24,6 +24,19 @@ Result(ending='none', opened=1, route=None, cost=None, setting=None, sheet=None)
 Traceback (most recent call last):
 ...
 planner.Refused: refused 8: s or t outside 1 to J
+
+A lock says which modes the depot sets, and how; the planner may not choose these. It has two numbers, in which mode m counts 2^(m-1):
+`mask` is the locked modes, `values` those of them that are locked on. Here mode 1 is locked on, so the sheet from above, which has it
+off, is not accepted:
+
+>>> locked = planner.search(plan, 1, 3, mask=1, values=1)
+>>> locked.route, locked.setting
+((5,), 1)
+>>> planner.check_sheet(plan, 1, 3, locked.sheet, mask=1, values=1)
+>>> planner.check_sheet(plan, 1, 3, found.sheet, mask=1, values=1)
+Traceback (most recent call last):
+...
+planner.Refused: refused 14: a rule not met under the sheet's setting, or a setting that breaks the lock
 """
 import ctypes
 import operator
@@ -54,12 +67,13 @@ CAUSES = {
     11: "sheet empty, over 3,072 bytes, not in the form, a step whose f2 is no belt's index, or setting 2^M or more",
     12: "belts not a route from s to t",
     13: "cost differs from the sum",
-    14: "a rule not met under the sheet's setting",
+    14: "a rule not met under the sheet's setting, or a setting that breaks the lock",
+    15: "mask with a bit at or above M, or a value with a bit outside the mask",
 }
 
 
 class Refused(Exception):
-    """A plan, a query or a sheet is refused: `number` is that of the first broken line, `cause` its words."""
+    """A plan, a query or a sheet is refused: `number` is that of the first broken line in the function's list, `cause` its words."""
 
     def __init__(self, number):
         # The number alone is the argument: so the exception can be copied, and handed from one process to another.
@@ -165,13 +179,17 @@ def check_plan(plan):
     _unless_refused(_loaded().planner_check_plan(plan, len(plan)))
 
 
-def search(plan, s, t, pick=0, order=0, budget=1_000_000):
-    """Finds the cheapest permitted route from junction s to junction t: returns a Result, or raises Refused with a number from 1 to 9.
+def search(plan, s, t, pick=0, order=0, budget=1_000_000, mask=0, values=0):
+    """Finds the cheapest permitted route from junction s to junction t: returns a Result, or raises Refused with the number of the first
+    broken line in the list 1 to 8, 15, 9.
 
     At most `budget` subproblems are opened, 1 or more. `pick`, from 0 to 2, and `order`, 0 or 1, say in which way the search goes
-    (docs/USING.md): they change how many it opens, and so whether the budget is enough, but not which route is found."""
+    (docs/USING.md): they change how many it opens, and so whether the budget is enough, but not which route is found.
+
+    `mask` and `values` are the lock; left out, no mode is locked. A setting agrees with the lock if it has every locked mode as the lock
+    has it. A route is permitted if a setting that agrees with the lock meets every rule, and the result has the lowest such setting."""
     plan = _copied("plan", plan)
-    query = _query(s=s, t=t, pick=pick, order=order, budget=budget)
+    query = _query(s=s, t=t, pick=pick, order=order, budget=budget, mask=mask, values=values)
     out = ctypes.create_string_buffer(SHEET_MAX)
     reply = _loaded().planner_search(plan, len(plan), query, out, len(out))
     if reply.number not in ENDINGS:
@@ -190,8 +208,11 @@ def _read(sheet):
     return tuple(step[2] for step in steps), cost, head[5]
 
 
-def check_sheet(plan, s, t, sheet):
-    """Checks a sheet against a plan: returns nothing if it has a permitted route from s to t, its cost and a setting that works, else
-    raises Refused with a number from 1 to 8 or from 11 to 14. The route need not be the cheapest."""
+def check_sheet(plan, s, t, sheet, mask=0, values=0):
+    """Checks a sheet against a plan: returns nothing if it has a route from s to t, its cost, and a setting that agrees with the lock and
+    meets every rule, else raises Refused with the number of the first broken line in the list 1 to 8, 15, 11 to 14. The route need not
+    be the cheapest, nor the setting the lowest. `mask` and `values` are the lock, as for `search`; a sheet does not say under which one it
+    was found."""
     plan, sheet = _copied("plan", plan), _copied("sheet", sheet)
-    _unless_refused(_loaded().planner_check_sheet(plan, len(plan), _query(s=s, t=t), sheet, len(sheet)))
+    query = _query(s=s, t=t, mask=mask, values=values)
+    _unless_refused(_loaded().planner_check_sheet(plan, len(plan), query, sheet, len(sheet)))

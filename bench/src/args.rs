@@ -53,6 +53,8 @@ fn query(words: &[String]) -> Result<Query, String> {
         pick: number("PICK", pick)?,
         order: number("ORDER", order)?,
         budget: number("BUDGET", budget)?,
+        mask: 0,
+        values: 0,
     })
 }
 
@@ -102,11 +104,11 @@ mod tests {
 
     #[test]
     fn file() {
-        let query = Query { s: 1, t: 3, pick: 2, order: 0, budget: u64::MAX };
+        let query = Query { s: 1, t: 3, pick: 2, order: 0, budget: u64::MAX, mask: 0, values: 0 };
         let task = Task::File("some/P.plan".into(), query);
         assert_eq!(asked("--file some/P.plan 1 3 2 0 18446744073709551615"), Ok(task));
         // What the search refuses is not refused here.
-        let query = Query { s: 0, t: 999, pick: 3, order: 2, budget: 0 };
+        let query = Query { s: 0, t: 999, pick: 3, order: 2, budget: 0, mask: 0, values: 0 };
         assert_eq!(asked("--file - 0 999 3 2 0"), Ok(Task::File("-".into(), query)));
     }
 

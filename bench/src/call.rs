@@ -39,8 +39,8 @@ pub fn check_plan(plan: &[u8]) -> u64 {
 }
 
 pub fn search(plan: &[u8], query: &Query, out: &mut [u8]) -> Answer {
-    let &Query { s, t, pick, order, budget } = query;
-    let asked = PlannerQuery { s, t, pick, order, budget, mask: 0, values: 0, minute: 0 };
+    let &Query { s, t, pick, order, budget, mask, values } = query;
+    let asked = PlannerQuery { s, t, pick, order, budget, mask, values, minute: 0 };
     // SAFETY: both slices are valid for their lengths, and they do not overlap.
     let reply =
         unsafe { planner_search(plan.as_ptr(), plan.len(), asked, out.as_mut_ptr(), out.len()) };

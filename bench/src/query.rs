@@ -7,9 +7,12 @@ pub struct Query {
     pub pick: u64,
     pub order: u64,
     pub budget: u64,
+    /// The locked modes, and those of them that are on: bit m-1 for mode m.
+    pub mask: u64,
+    pub values: u64,
 }
 
-/// The returned number (0 a route, 1 to 10 refused, 100 none, 101 spent), the
+/// The returned number (0 a route, 1 to 10 and 15 refused, 100 none, 101 spent), the
 /// opened count and the sheet's length.
 #[derive(Clone, Copy, Debug, PartialEq)]
 pub struct Answer {

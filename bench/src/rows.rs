@@ -37,7 +37,8 @@ const STREWN: Network = Network { junctions: 256, belts: LARGEST, graph: Scatter
 const SIDE: Network = Network { junctions: 256, belts: LARGEST, graph: SideLine(16) };
 
 pub fn searches() -> Vec<Row> {
-    [small(), medium(), large(), largest(), trips(), modes()].into_iter().flatten().collect()
+    let rows = [small(), medium(), large(), largest(), trips(), modes(), locks()];
+    rows.into_iter().flatten().collect()
 }
 
 fn row(name: &str, spec: Spec, query: Query) -> Row {
@@ -55,7 +56,13 @@ pub fn of_file(path: &Path, query: Query) -> Result<Row, String> {
 }
 
 fn ask(s: u64, t: u64, pick: u64, order: u64, budget: u64) -> Query {
-    Query { s, t, pick, order, budget }
+    Query { s, t, pick, order, budget, mask: 0, values: 0 }
+}
+
+/// The same query with some modes locked on and others locked off.
+fn locked(on: &[u32], off: &[u32], query: Query) -> Query {
+    let bits = |modes: &[u32]| modes.iter().map(|mode| 1 << (mode - 1)).sum::<u64>();
+    Query { mask: bits(on) + bits(off), values: bits(on), ..query }
 }
 
 /// 40 belts. The first row opens one subproblem: the call's own cost.
@@ -131,6 +138,16 @@ fn modes() -> Vec<Row> {
     ]
 }
 
+/// Rows of ten modes again, some of them locked: another route is found.
+fn locks() -> Vec<Row> {
+    let small = locked(&[1, 7], &[4, 10], ask(1, 12, 0, 1, AMPLE));
+    let sparse = locked(&[], &[3, 6, 9], ask(1, 250, 0, 0, AMPLE));
+    vec![
+        row("40 ten modes locked", SMALL.rules(3, 12, Modes(12)), small),
+        row("500 ten modes locked", SPARSE.rules(0, 12, Modes(12)), sparse),
+    ]
+}
+
 /// Plans for the plan check alone.
 pub fn plans() -> Vec<PlanRow> {
     let plan = |name, spec: Spec| PlanRow { name, plan: spec.plan().1 };
@@ -148,7 +165,8 @@ pub fn plans() -> Vec<PlanRow> {
 mod tests {
     use super::*;
     use crate::baseline;
-    use crate::records::{self, SHEET_MAX};
+    use crate::query::{Answer, ROUTE};
+    use crate::records::{self, Record, SHEET_MAX};
 
     fn example(name: &str) -> Result<Row, String> {
         let folder = Path::new(env!("CARGO_MANIFEST_DIR")).join("../examples");
@@ -165,22 +183,36 @@ mod tests {
         assert_eq!(example("refused-5.plan").expect("a refused plan").size, None);
     }
 
+    /// What the baseline answers in a row, and the records of the sheet.
+    fn answer(name: &str) -> (Answer, Vec<Record>) {
+        let rows = searches();
+        let row = rows.iter().find(|row| row.name == name).expect(name);
+        let mut out = [0; SHEET_MAX];
+        let answer = baseline::search(&row.plan, &row.query, &mut out);
+        (answer, records::decode(&out))
+    }
+
     /// Dear belts change nothing but the cost, which is over 2^32.
     #[test]
     fn dear_row() {
-        let rows = searches();
-        let answer = |name: &str| {
-            let row = rows.iter().find(|row| row.name == name).expect(name);
-            let mut out = [0; SHEET_MAX];
-            let answer = baseline::search(&row.plan, &row.query, &mut out);
-            (answer, records::decode(&out))
-        };
         let (low_answer, low_sheet) = answer("largest covers");
         let (answer, sheet) = answer("largest dear");
         assert_eq!(answer, low_answer);
         assert_eq!(sheet[1..], low_sheet[1..]);
         assert_eq!(low_sheet[0][2], 0);
         assert!(sheet[0][2] > 0);
+    }
+
+    /// The locks choose other routes, with settings that keep them.
+    #[test]
+    fn locked_rows() {
+        for (name, mask, values) in [("40 ten modes", 585, 65), ("500 ten modes", 292, 0)] {
+            let (free_answer, free_sheet) = answer(name);
+            let (answer, sheet) = answer(&format!("{name} locked"));
+            assert_eq!((free_answer.number, answer.number), (ROUTE, ROUTE));
+            assert_ne!(sheet[1..], free_sheet[1..]);
+            assert_eq!(sheet[0][5] & mask, values);
+        }
     }
 
     #[test]

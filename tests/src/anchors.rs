@@ -1,12 +1,13 @@
 //! Fixed plans and sheets with numbers that are written down beforehand: plan P
 //! with its neighbours, plans that tell picks, orders and ties apart, costs in both
-//! of their halves, and what is refused. They hold the library and the tests' own
-//! expectations to the same numbers.
+//! of their halves, locks, and what is refused. They hold the library and the tests'
+//! own expectations to the same numbers.
 
 use crate::compare::{Answer, Judge, Verdict};
 use crate::enumerate::{self, Limits};
-use crate::plan::{bytes_of, records_of, Record};
-use crate::refusals::{self, Query, SHEET_MAX};
+use crate::lock::{Lock, FREE};
+use crate::plan::{bytes_of, records_of, Plan, Record};
+use crate::refusals::{self, Query, Trip, SHEET_MAX};
 use crate::sheet;
 use crate::written::{self, Ending, Named};
 
@@ -19,6 +20,9 @@ enum Found<'a> {
 
 /// Name, records, (s, t, pick, order, budget), what is found, opened.
 type Anchor<'a> = (&'static str, Vec<Record>, [u64; 5], Found<'a>, u64);
+
+/// Mask and values of the lock, and what is asked under it.
+type Locked<'a> = ([u64; 2], Anchor<'a>);
 
 const ENOUGH: u64 = 1_000_000;
 
@@ -42,6 +46,11 @@ fn p() -> Vec<Record> {
     p_with(1, &[[3, 0, 8, 0, 0, 0], [4, 9, 0, 0, 4, 0], [4, 0, 0, 0, 6, 0]])
 }
 
+/// P with the only rule "not belt 4, or mode 1".
+fn e10() -> Vec<Record> {
+    p_with(1, &[[3, 0, 8, 0, 0, 0], [4, 9, 0, 0, 4, 0], [4, 0, 1, 1, 1, 0]])
+}
+
 /// P with a belt 5 that costs 65,545.
 fn p_high() -> Vec<Record> {
     let mut records = p();
@@ -55,7 +64,6 @@ fn examples() -> Vec<Anchor<'static>> {
     cheaper[5][3] = 7;
     let e9: [Record; 5] =
         [[3, 10, 8, 0, 0, 0], [4, 9, 0, 0, 4, 0], [4, 0, 0, 0, 6, 0], [3, 0, 11, 0, 0, 0], [4, 0, 0, 0, 5, 0]];
-    let e10: [Record; 3] = [[3, 0, 8, 0, 0, 0], [4, 9, 0, 0, 4, 0], [4, 0, 1, 1, 1, 0]];
     let e11: [Record; 4] = [[3, 9, 8, 0, 0, 0], [4, 0, 1, 1, 1, 0], [3, 0, 10, 0, 0, 0], [4, 0, 0, 1, 1, 0]];
     vec![
         ("E1", p(), [1, 3, 0, 0, ENOUGH], Found::Route(&[5], 9, 0), 5),
@@ -67,14 +75,18 @@ fn examples() -> Vec<Anchor<'static>> {
         ("E7", p_with(1, &[]), [1, 3, 0, 0, ENOUGH], Found::Route(&[4, 6], 7, 0), 1),
         ("E8", cheaper, [1, 3, 0, 0, ENOUGH], Found::Route(&[4, 6], 7, 0), 1),
         ("E9", p_with(1, &e9), [1, 3, 0, 0, ENOUGH], Found::None, 11),
-        ("E10", p_with(1, &e10), [1, 3, 0, 0, ENOUGH], Found::Route(&[4, 6], 7, 1), 1),
+        ("E10", e10(), [1, 3, 0, 0, ENOUGH], Found::Route(&[4, 6], 7, 1), 1),
         ("E11", p_with(1, &e11), [1, 3, 0, 0, ENOUGH], Found::None, 1),
     ]
 }
 
+/// P with four modes and the only rule "mode 4, or not belt 4".
+fn mode_4_or_not_belt_4() -> Vec<Record> {
+    p_with(4, &[[3, 0, 8, 0, 0, 0], [4, 9, 1, 1, 4, 0], [4, 0, 0, 0, 4, 0]])
+}
+
 /// Modes apart from belts, empty rules, named belts outside of s to t, equal costs.
 fn rules_and_ties() -> Vec<Anchor<'static>> {
-    let apart: [Record; 3] = [[3, 0, 8, 0, 0, 0], [4, 9, 1, 1, 4, 0], [4, 0, 0, 0, 4, 0]];
     let p_and_empty: [Record; 4] = [[3, 10, 8, 0, 0, 0], [4, 9, 0, 0, 4, 0], [4, 0, 0, 0, 6, 0], [3, 0, 0, 0, 0, 0]];
     let only_4: [Record; 2] = [[3, 0, 8, 0, 0, 0], [4, 0, 1, 0, 4, 0]];
     let tie = [
@@ -87,7 +99,7 @@ fn rules_and_ties() -> Vec<Anchor<'static>> {
         [4, 0, 0, 0, 7, 0],
     ];
     vec![
-        ("mode 4 and belt 4", p_with(4, &apart), [1, 3, 0, 0, ENOUGH], Found::Route(&[4, 6], 7, 8), 1),
+        ("mode 4 and belt 4", mode_4_or_not_belt_4(), [1, 3, 0, 0, ENOUGH], Found::Route(&[4, 6], 7, 8), 1),
         ("P and an empty rule", p_with(1, &p_and_empty), [1, 3, 0, 0, ENOUGH], Found::None, 7),
         ("only an empty rule", p_with(0, &[[3, 0, 0, 0, 0, 0]]), [1, 3, 0, 0, ENOUGH], Found::None, 1),
         ("only belt 4, 1 to 1", p_with(0, &only_4), [1, 1, 0, 0, ENOUGH], Found::None, 3),
@@ -206,9 +218,9 @@ fn hold_dearest(judge: &mut Judge) -> Verdict {
     for (head, line) in dearest_heads() {
         let mut sheet = records_of(&sheet::write(&belts, DEAREST, 0));
         sheet[0] = head;
-        hold_sheet(judge, &row, &sheet, 1, 256, line)?;
+        hold_sheet(judge, &row, &sheet, &Trip { s: 1, t: 256, lock: FREE }, line)?;
     }
-    hold(judge, ("dearest row", row, [1, 256, 0, 0, ENOUGH], Found::Route(&belts, DEAREST, 0), 1))
+    hold(judge, &FREE, ("dearest row", row, [1, 256, 0, 0, ENOUGH], Found::Route(&belts, DEAREST, 0), 1))
 }
 
 /// Costs, and the fields f2 to f4 of the first record of a sheet.
@@ -281,6 +293,225 @@ fn high_sheets() -> Vec<(&'static [Record], u64, u64, u64)> {
     ]
 }
 
+/// Locks and plans in which they choose the setting, but no route: rules over modes alone, or none.
+fn locked_settings() -> Vec<Locked<'static>> {
+    let query = [1, 3, 0, 0, ENOUGH];
+    let with = |rule: [Record; 2]| p_with(2, &[&[[3, 0, 8, 0, 0, 0]], &rule[..]].concat());
+    let either = || with([[4, 9, 1, 1, 1, 0], [4, 0, 1, 1, 2, 0]]);
+    let then = || with([[4, 9, 0, 1, 1, 0], [4, 0, 1, 1, 2, 0]]);
+    let route = |setting| Found::Route(&[4, 6], 7, setting);
+    vec![
+        ([1, 1], ("P, mode 1 on", p(), query, Found::Route(&[5], 9, 1), 5)),
+        ([1, 0], ("P, mode 1 off", p(), query, Found::Route(&[5], 9, 0), 5)),
+        ([0, 0], ("mode 1 or 2", either(), query, route(1), 1)),
+        ([1, 0], ("mode 1 or 2, 1 off", either(), query, route(2), 1)),
+        ([1, 1], ("mode 1 or 2, 1 on", either(), query, route(1), 1)),
+        ([2, 0], ("mode 1 or 2, 2 off", either(), query, route(1), 1)),
+        ([2, 2], ("mode 1 or 2, 2 on", either(), query, route(2), 1)),
+        ([3, 0], ("mode 1 or 2, both off", either(), query, Found::None, 1)),
+        ([3, 1], ("mode 1 or 2, 1 on, 2 off", either(), query, route(1), 1)),
+        ([3, 2], ("mode 1 or 2, 1 off, 2 on", either(), query, route(2), 1)),
+        ([3, 3], ("mode 1 or 2, both on", either(), query, route(3), 1)),
+        ([0, 0], ("not mode 1, or mode 2", then(), query, route(0), 1)),
+        ([1, 1], ("not mode 1, or mode 2, 1 on", then(), query, route(3), 1)),
+        ([2, 2], ("not mode 1, or mode 2, 2 on", then(), query, route(2), 1)),
+        ([3, 1], ("not mode 1, or mode 2, 1 on, 2 off", then(), query, Found::None, 1)),
+    ]
+}
+
+/// Locks and plans in which they choose the route, and with it the count.
+fn locked_routes() -> Vec<Locked<'static>> {
+    let query = [1, 3, 0, 0, ENOUGH];
+    let apart = mode_4_or_not_belt_4;
+    vec![
+        ([1, 0], ("E10, mode 1 off", e10(), query, Found::Route(&[5], 9, 0), 3)),
+        ([1, 1], ("E10, mode 1 on", e10(), query, Found::Route(&[4, 6], 7, 1), 1)),
+        ([1, 0], ("E10, mode 1 off, order 1", e10(), [1, 3, 0, 1, ENOUGH], Found::Route(&[5], 9, 0), 3)),
+        ([1, 0], ("E10, mode 1 off, budget 3", e10(), [1, 3, 0, 0, 3], Found::Route(&[5], 9, 0), 3)),
+        ([1, 0], ("E10, mode 1 off, budget 2", e10(), [1, 3, 0, 0, 2], Found::Spent, 2)),
+        ([1, 1], ("E10, mode 1 on, budget 1", e10(), [1, 3, 0, 0, 1], Found::Route(&[4, 6], 7, 1), 1)),
+        ([1, 1], ("E10, mode 1 on, 1 to 1", e10(), [1, 1, 0, 0, ENOUGH], Found::Route(&[], 0, 1), 1)),
+        ([1, 1], ("E10, mode 1 on, 3 to 1", e10(), [3, 1, 0, 0, ENOUGH], Found::None, 1)),
+        ([8, 0], ("mode 4 and belt 4, 4 off", apart(), query, Found::Route(&[5], 9, 0), 3)),
+        ([13, 5], ("mode 4 and belt 4, 4 off, 1 and 3 on", apart(), query, Found::Route(&[5], 9, 5), 3)),
+        ([1, 1], ("mode 4 and belt 4, 1 on", apart(), query, Found::Route(&[4, 6], 7, 9), 1)),
+        ([15, 8], ("mode 4 and belt 4, 4 on alone", apart(), query, Found::Route(&[4, 6], 7, 8), 1)),
+    ]
+}
+
+/// Two rules that a mode each can meet, "not belt 5, or mode 1" and "not belt 7, or mode 2",
+/// under locks and with counts that differ by pick.
+fn locked_picks() -> Vec<Locked<'static>> {
+    let above = [
+        [2, 5, 2, 3, 0, 0],
+        [2, 6, 2, 3, 0, 0],
+        [2, 0, 3, 9, 0, 0],
+        [2, 0, 3, 4, 0, 0],
+        [3, 11, 9, 0, 0, 0],
+        [4, 10, 0, 0, 5, 0],
+        [4, 0, 1, 1, 1, 0],
+        [3, 0, 12, 0, 0, 0],
+        [4, 13, 0, 0, 7, 0],
+        [4, 0, 1, 1, 2, 0],
+    ];
+    let with = || plan(2, [4, 7, 0], 8, &above);
+    let (pick_0, pick_2) = ([1, 3, 0, 0, ENOUGH], [1, 3, 2, 0, ENOUGH]);
+    vec![
+        ([0, 0], ("two modes, pick 0", with(), pick_0, Found::Route(&[4, 7], 7, 2), 1)),
+        ([3, 2], ("two modes, 1 off, 2 on, pick 0", with(), pick_0, Found::Route(&[4, 7], 7, 2), 1)),
+        ([2, 0], ("two modes, 2 off, pick 0", with(), pick_0, Found::Route(&[6], 9, 0), 7)),
+        ([3, 1], ("two modes, 1 on, 2 off, pick 0", with(), pick_0, Found::Route(&[6], 9, 1), 7)),
+        ([3, 0], ("two modes, both off, pick 2", with(), pick_2, Found::Route(&[6], 9, 0), 5)),
+    ]
+}
+
+/// P with M modes, mask and values, and the line that is broken; 0 if none is.
+fn locks() -> Vec<(u16, [u64; 2], u64)> {
+    vec![
+        (0, [0, 0], 0),
+        (0, [1, 0], 15),
+        (0, [0, 1], 15),
+        (1, [1, 0], 0),
+        (1, [1, 1], 0),
+        (1, [2, 0], 15),
+        (1, [2, 2], 15),
+        (1, [3, 1], 15),
+        (1, [0, 1], 15),
+        (1, [1, 2], 15),
+        (1, [1, 3], 15),
+        (1, [1 << 63, 0], 15),
+        (1, [(1 << 63) + 1, 1], 15),
+        (1, [65_537, 0], 15),
+        (1, [65_537, 65_537], 15),
+        (1, [1, 65_537], 15),
+        (1, [(1 << 32) + 1, 1], 15),
+        (1, [1, (1 << 32) + 1], 15),
+        (1, [1, (1 << 63) + 1], 15),
+        (5, [31, 31], 0),
+        (5, [32, 0], 15),
+        (5, [21, 10], 15),
+        (10, [1_023, 0], 0),
+        (10, [1_023, 1_023], 0),
+        (10, [512, 512], 0),
+        (10, [1_024, 0], 15),
+        (10, [1_024, 1_024], 15),
+        (10, [1_023, 1_024], 15),
+        (10, [u64::MAX, u64::MAX], 15),
+    ]
+}
+
+/// Queries of P, and the line of the search that is broken first.
+fn wrong_queries() -> Vec<(Query, u64)> {
+    let lock = Lock { mask: 2, values: 0 };
+    let trip = Trip { s: 1, t: 3, lock };
+    let free = Trip { lock: FREE, ..trip };
+    let value = Trip { lock: Lock { mask: 0, values: 1 }, ..trip };
+    let query = |trip| Query { trip, pick: 0, order: 0, budget: ENOUGH, out_len: SHEET_MAX };
+    vec![
+        (query(Trip { s: 0, ..trip }), 8),
+        (query(Trip { t: 4, ..trip }), 8),
+        (Query { budget: 0, out_len: 0, ..query(Trip { s: 0, ..trip }) }, 8),
+        (query(trip), 15),
+        (Query { pick: 3, ..query(trip) }, 15),
+        (Query { order: 2, ..query(trip) }, 15),
+        (Query { budget: 0, ..query(trip) }, 15),
+        (Query { out_len: 3071, ..query(trip) }, 15),
+        (Query { budget: 0, out_len: 0, ..query(trip) }, 15),
+        (Query { budget: 0, ..query(value) }, 15),
+        (Query { budget: 0, out_len: 0, ..query(free) }, 9),
+        (Query { out_len: 3071, ..query(free) }, 10),
+    ]
+}
+
+/// Belt 5, and belts 4 and 6, with a cost and a setting.
+fn belt_5(cost: u16, setting: u16) -> Vec<Record> {
+    vec![[8, 1, 0, 0, cost, setting], [5, 0, 5, 0, 0, 0]]
+}
+
+fn belts_4_6(setting: u16) -> Vec<Record> {
+    vec![[8, 1, 0, 0, 7, setting], [5, 2, 4, 0, 0, 0], [5, 0, 6, 0, 0, 0]]
+}
+
+/// Sheets for E10's plan, s, t, mask and values, and the line that is broken; 0 if none is.
+fn locked_sheets() -> Vec<(Vec<Record>, [u64; 4], u64)> {
+    vec![
+        (belt_5(9, 1), [1, 3, 1, 0], 14),
+        (belt_5(8, 1), [1, 3, 1, 0], 13),
+        (belt_5(9, 1), [1, 2, 1, 0], 12),
+        (belt_5(9, 2), [1, 3, 1, 0], 11),
+        // Every rule is met, with mode 1 off too.
+        (belt_5(9, 0), [1, 3, 1, 1], 14),
+        (belt_5(9, 1), [1, 3, 1, 1], 0),
+        (belt_5(9, 0), [1, 3, 1, 0], 0),
+        (belts_4_6(1), [1, 3, 1, 1], 0),
+        (belts_4_6(1), [1, 3, 1, 0], 14),
+        (belts_4_6(0), [1, 3, 1, 0], 14),
+        (belts_4_6(0), [1, 3, 1, 1], 14),
+        (vec![[8, 0, 0, 0, 0, 0]], [1, 1, 1, 1], 14),
+        (vec![[8, 0, 0, 0, 0, 1]], [1, 1, 1, 1], 0),
+        (belt_5(9, 0), [1, 3, 0, 0], 0),
+        (belt_5(9, 1), [1, 3, 0, 0], 0),
+        (belt_5(9, 0), [1, 3, 2, 0], 15),
+        (belt_5(9, 1), [1, 3, 0, 1], 15),
+        (vec![], [1, 3, 2, 0], 15),
+        (belt_5(9, 2), [1, 3, 2, 2], 15),
+        (belt_5(9, 0), [1, 2, 2, 0], 15),
+        (belt_5(8, 0), [1, 3, 2, 0], 15),
+        (belts_4_6(0), [1, 3, 2, 0], 15),
+        (belt_5(9, 0), [0, 3, 2, 0], 8),
+        (belt_5(9, 0), [1, 4, 0, 1], 8),
+    ]
+}
+
+/// The same for P with two modes and the only rule "mode 1, or mode 2".
+fn half_locked_sheets() -> Vec<(Vec<Record>, [u64; 4], u64)> {
+    vec![
+        (belts_4_6(1), [1, 3, 1, 0], 14),
+        (belts_4_6(2), [1, 3, 1, 0], 0),
+        (belts_4_6(3), [1, 3, 1, 0], 14),
+        (belts_4_6(1), [1, 3, 2, 2], 14),
+        (belts_4_6(2), [1, 3, 2, 2], 0),
+        (belts_4_6(3), [1, 3, 2, 2], 0),
+        (belts_4_6(0), [1, 3, 2, 0], 14),
+        (belts_4_6(1), [1, 3, 3, 2], 14),
+    ]
+}
+
+/// Holds the library to each lock of P, right and wrong. No rule has a mode, so the setting is the values.
+fn hold_locks(judge: &mut Judge) -> Verdict {
+    for (modes, [mask, values], line) in locks() {
+        let mut records = p();
+        records[0][2] = modes;
+        let trip = Trip { s: 1, t: 3, lock: Lock { mask, values } };
+        if line == 0 {
+            let query = [1, 3, 0, 0, ENOUGH];
+            let anchor = ("P and a lock", records.clone(), query, Found::Route(&[5], 9, values), 5);
+            hold(judge, &trip.lock, anchor)?;
+            hold_sheet(judge, &records, &belt_5(9, values as u16), &trip, 0)?;
+        } else {
+            let query = Query { trip, pick: 0, order: 0, budget: ENOUGH, out_len: SHEET_MAX };
+            hold_query(judge, &records, &query, line)?;
+            hold_sheet(judge, &records, &belt_5(9, 0), &trip, line)?;
+        }
+    }
+    for (query, line) in wrong_queries() {
+        hold_query(judge, &p(), &query, line)?;
+    }
+    Ok(())
+}
+
+/// Holds the library to sheets under locks.
+fn hold_locked_sheets(judge: &mut Judge) -> Verdict {
+    let either = p_with(2, &[[3, 0, 8, 0, 0, 0], [4, 9, 1, 1, 1, 0], [4, 0, 1, 1, 2, 0]]);
+    for (plan, sheets) in [(e10(), locked_sheets()), (either, half_locked_sheets())] {
+        for (sheet, [s, t, mask, values], line) in sheets {
+            let trip = Trip { s, t, lock: Lock { mask, values } };
+            hold_sheet(judge, &plan, &sheet, &trip, line)?;
+        }
+    }
+    Ok(())
+}
+
 /// Holds the library and the tests' own predicate to the written lines.
 fn hold_refusals(judge: &mut Judge) -> Verdict {
     for (changes, line) in changed_plans() {
@@ -294,25 +525,37 @@ fn hold_refusals(judge: &mut Judge) -> Verdict {
         }
         judge.plan(&bytes_of(&records), line)?;
     }
-    for (records, s, t, line) in sheets() {
-        hold_sheet(judge, &p(), records, s, t, line)?;
-    }
-    for (records, s, t, line) in high_sheets() {
-        hold_sheet(judge, &p_high(), records, s, t, line)?;
+    for (plan, sheets) in [(p(), sheets()), (p_high(), high_sheets())] {
+        for (records, s, t, line) in sheets {
+            hold_sheet(judge, &plan, records, &Trip { s, t, lock: FREE }, line)?;
+        }
     }
     Ok(())
 }
 
+/// A fixed plan as the tests read it.
+fn read(bytes: &[u8]) -> Result<Plan, String> {
+    refusals::read(bytes).map_err(|line| format!("the tests refuse a fixed plan by line {line}"))
+}
+
 /// Holds the library and the tests' own predicate to the line of a sheet.
-fn hold_sheet(judge: &mut Judge, plan: &[Record], sheet: &[Record], s: u64, t: u64, line: u64) -> Verdict {
+fn hold_sheet(judge: &mut Judge, plan: &[Record], sheet: &[Record], trip: &Trip, line: u64) -> Verdict {
     let (plan, sheet) = (bytes_of(plan), bytes_of(sheet));
-    let read =
-        refusals::read(&plan).map_err(|line| format!("fixed sheet: the tests refuse its plan by line {line}"))?;
-    let own = refusals::check_line(&read, s, t, &sheet).unwrap_or(0);
+    let own = refusals::check_lines(&read(&plan)?, trip, &sheet).first().copied().unwrap_or(0);
     if own != line {
-        return Err(format!("fixed sheet: the tests say {own} and not {line} for {:?}", records_of(&sheet)));
+        return Err(format!("fixed sheet: the tests say {own} and not {line} for {:?}, {trip:?}", records_of(&sheet)));
     }
-    judge.check(&plan, s, t, &sheet, line)
+    judge.check(&plan, trip, &sheet, line)
+}
+
+/// Holds the library and the tests' own predicate to the line of a search.
+fn hold_query(judge: &mut Judge, plan: &[Record], query: &Query, line: u64) -> Verdict {
+    let plan = bytes_of(plan);
+    let own = refusals::search_lines(&read(&plan)?, query).first().copied().unwrap_or(0);
+    if own != line {
+        return Err(format!("fixed query: the tests say {own} and not {line} for {query:?}"));
+    }
+    judge.search(&plan, query, &Answer::Refused(line))
 }
 
 pub fn run(judge: &mut Judge) -> Verdict {
@@ -320,23 +563,35 @@ pub fn run(judge: &mut Judge) -> Verdict {
     hold_refusals(judge)?;
     for anchors in [examples(), rules_and_ties(), picks_and_orders(), high_costs(), high_ties()] {
         for anchor in anchors {
-            hold(judge, anchor)?;
+            hold(judge, &FREE, anchor)?;
         }
     }
-    hold_dearest(judge)
+    hold_dearest(judge)?;
+    for anchors in [locked_settings(), locked_routes(), locked_picks()] {
+        for ([mask, values], anchor) in anchors {
+            hold(judge, &Lock { mask, values }, anchor)?;
+        }
+    }
+    hold_locks(judge)?;
+    hold_locked_sheets(judge)
 }
 
 /// Holds the library and the tests' own search to the written numbers.
-fn hold(judge: &mut Judge, anchor: Anchor) -> Verdict {
+fn hold(judge: &mut Judge, lock: &Lock, anchor: Anchor) -> Verdict {
     let name = anchor.0;
-    hold_numbers(judge, anchor).map_err(|message| format!("fixed plan {name}: {message}"))
+    hold_numbers(judge, lock, anchor).map_err(|message| format!("fixed plan {name}, {lock:?}: {message}"))
 }
 
-fn hold_numbers(judge: &mut Judge, (_, records, [s, t, pick, order, budget], found, opened): Anchor) -> Verdict {
+fn hold_numbers(
+    judge: &mut Judge,
+    lock: &Lock,
+    (_, records, [s, t, pick, order, budget], found, opened): Anchor,
+) -> Verdict {
     let bytes = bytes_of(&records);
-    let plan = refusals::read(&bytes).map_err(|line| format!("the tests refuse it by line {line}"))?;
+    let plan = read(&bytes)?;
     let limits = Limits { routes: 100, belts_tried: 1000 };
     let routes = enumerate::routes(&plan, s as usize, t as usize, limits).expect("few routes");
+    let routes = enumerate::under(&plan, lock, &routes);
     let (ending, count) = written::search(&routes, &Named::of(&plan), pick, order, budget);
     let (agree, answer) = match found {
         Found::None => (ending == Ending::None, Answer::None { opened }),
@@ -353,5 +608,6 @@ fn hold_numbers(judge: &mut Judge, (_, records, [s, t, pick, order, budget], fou
     if !agree || count != opened {
         return Err(format!("the tests' own search ends with {ending:?} and opens {count}"));
     }
-    judge.search(&bytes, &Query { s, t, pick, order, budget, out_len: SHEET_MAX }, &answer)
+    let trip = Trip { s, t, lock: *lock };
+    judge.search(&bytes, &Query { trip, pick, order, budget, out_len: SHEET_MAX }, &answer)
 }

@@ -1,7 +1,8 @@
 //! The library's functions, each called with buffers that stand between guard
 //! bytes. What is lent is compared with what it was before the call.
 
-use crate::refusals::Query;
+use crate::lock::Lock;
+use crate::refusals::{Query, Trip};
 use crate::rng::Rng;
 use crate::stack;
 
@@ -116,17 +117,18 @@ pub fn check_plan(plan: &[u8], rng: &mut Rng) -> (u64, Option<String>) {
     (number, plan.read_only("plan"))
 }
 
-/// What no function looks at yet has any value.
-fn any_query(rng: &mut Rng) -> PlannerQuery {
-    let [s, t, pick, order, budget, mask, values, minute] = std::array::from_fn(|_| rng.next());
+/// The query of a trip. What the trip does not say has any value.
+fn asked(trip: &Trip, rng: &mut Rng) -> PlannerQuery {
+    let &Trip { s, t, lock: Lock { mask, values } } = trip;
+    let [pick, order, budget, minute] = std::array::from_fn(|_| rng.next());
     PlannerQuery { s, t, pick, order, budget, mask, values, minute }
 }
 
 pub fn search(plan: &[u8], query: &Query, rng: &mut Rng) -> Searched {
     let mut plan = Lent::new(plan, rng);
     let mut out = Lent::new(&rng.bytes(query.out_len), rng);
-    let &Query { s, t, pick, order, budget, .. } = query;
-    let asked = PlannerQuery { s, t, pick, order, budget, ..any_query(rng) };
+    let &Query { pick, order, budget, .. } = query;
+    let asked = PlannerQuery { pick, order, budget, ..asked(&query.trip, rng) };
     let (plan_pointer, plan_len, out_pointer, out_len) = (plan.pointer(), plan.len, out.pointer(), out.len);
     // SAFETY: each buffer has as many bytes as is said, and none overlaps another.
     let reply = stack::SEARCH.call(|| unsafe { planner_search(plan_pointer, plan_len, asked, out_pointer, out_len) });
@@ -135,14 +137,14 @@ pub fn search(plan: &[u8], query: &Query, rng: &mut Rng) -> Searched {
     Searched { reply, out_before: out.content_before().to_vec(), out: out.content().to_vec(), strayed }
 }
 
-/// The number, and what changed though nothing may. Pick, order and budget are not
-/// looked at here, so they have any value too.
-pub fn check_sheet(plan: &[u8], s: u64, t: u64, sheet: &[u8], rng: &mut Rng) -> (u64, Option<String>) {
+/// The number, and what changed though nothing may. Pick, order, budget and minute are not
+/// looked at here.
+pub fn check_sheet(plan: &[u8], trip: &Trip, sheet: &[u8], rng: &mut Rng) -> (u64, Option<String>) {
     // Plan and sheet may overlap: the same bytes are lent once or twice.
     let once = plan == sheet && rng.chance(1, 2);
     let mut plan = Lent::new(plan, rng);
     let mut sheet = Lent::new(sheet, rng);
-    let asked = PlannerQuery { s, t, ..any_query(rng) };
+    let asked = asked(trip, rng);
     let (plan_pointer, plan_len) = (plan.pointer(), plan.len);
     let (sheet_pointer, sheet_len) = (if once { plan_pointer } else { sheet.pointer() }, sheet.len);
     // SAFETY: each pointer has that many bytes behind it.

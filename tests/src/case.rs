@@ -3,9 +3,10 @@
 use crate::compare::{print_changes, print_records, Answer, Judge, Verdict};
 use crate::layout::{lay_out, Draft};
 use crate::plan::{bytes_of, About, Literal, Plan, MAX_JUNCTIONS, MAX_MODES, MAX_NAMED, MAX_RECORDS, RECORD};
+use crate::refusals::Trip;
 use crate::rng::Rng;
 use crate::written::Named;
-use crate::{damage, generate, refusals, sheet};
+use crate::{damage, generate, lock, refusals, sheet};
 
 /// The damages that a case chooses from.
 pub struct Damages {
@@ -165,7 +166,7 @@ impl Case<'_> {
     /// A damaged plan: refused by all functions alike, or another valid plan.
     fn broken_plan(&mut self, scene: &Scene, bytes: Vec<u8>) -> Verdict {
         match refusals::read(&bytes) {
-            Err(line) => self.refused(&bytes, line, scene.plan.junctions),
+            Err(line) => self.refused(&bytes, line, scene.plan.junctions, scene.plan.modes),
             Ok(_) if bytes == scene.bytes => Ok(()),
             Ok(plan) => {
                 self.judge.tally.add("plans", "damaged and still valid");
@@ -178,15 +179,16 @@ impl Case<'_> {
     }
 
     /// A plan that breaks one of the lines 1 to 7, whatever else is asked.
-    fn refused(&mut self, bytes: &[u8], line: u64, junctions: usize) -> Verdict {
+    fn refused(&mut self, bytes: &[u8], line: u64, junctions: usize, modes: usize) -> Verdict {
         self.judge.plan(bytes, line)?;
-        let mut query = self.bad_query(junctions);
+        let mut query = self.bad_query(junctions, modes);
         if self.rng.chance(1, 2) {
-            query = self.query(1, junctions, 0, 0, 1_000_000);
+            let trip = Trip { s: 1, t: junctions as u64, lock: lock::right(modes, &mut self.rng) };
+            query = self.query(&trip, 0, 0, 1_000_000);
         }
         self.judge.search(bytes, &query, &Answer::Refused(line))?;
         let sheet = if self.rng.chance(1, 4) { Vec::new() } else { self.sheet.clone() };
-        self.judge.check(bytes, query.s, query.t, &sheet, line)
+        self.judge.check(bytes, &query.trip, &sheet, line)
     }
 
     /// Plans at and just over the bounds: named belts, records, junctions, modes.
@@ -232,7 +234,7 @@ impl Case<'_> {
             return Err(format!("the tests' own reading does not refuse this plan by line {line}"));
         }
         self.judge.tally.add(group, name);
-        self.refused(&bytes, line, draft.junctions)
+        self.refused(&bytes, line, draft.junctions, draft.modes)
     }
 }
 

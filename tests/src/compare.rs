@@ -2,8 +2,9 @@
 //! what is expected.
 
 use crate::call::{self, PlannerReply, Searched};
+use crate::lock::FREE;
 use crate::plan::{records_of, Record};
-use crate::refusals::Query;
+use crate::refusals::{Query, Trip};
 use crate::rng::Rng;
 use crate::tally::Tally;
 
@@ -42,10 +43,10 @@ impl Judge {
         self.number(&format!("plan of {} bytes", plan.len()), plan, expected, number, strayed)
     }
 
-    pub fn check(&mut self, plan: &[u8], s: u64, t: u64, sheet: &[u8], expected: u64) -> Verdict {
-        let (number, strayed) = call::check_sheet(plan, s, t, sheet, &mut self.guards);
+    pub fn check(&mut self, plan: &[u8], trip: &Trip, sheet: &[u8], expected: u64) -> Verdict {
+        let (number, strayed) = call::check_sheet(plan, trip, sheet, &mut self.guards);
         self.tally.add("answers of planner_check_sheet", &number.to_string());
-        let what = format!("check from {s} to {t} of a sheet of {} bytes ({})", sheet.len(), shown(sheet));
+        let what = format!("check {}, sheet of {} bytes ({})", told(trip), sheet.len(), shown(sheet));
         self.number(&what, plan, expected, number, strayed)
     }
 
@@ -64,8 +65,12 @@ impl Judge {
         let got = call::search(plan, query, &mut self.guards);
         self.note_search(query, expected, got.reply.number);
         let what = format!(
-            "search from {} to {}, pick {}, order {}, budget {}, out {} bytes",
-            query.s, query.t, query.pick, query.order, query.budget, query.out_len
+            "search {}, pick {}, order {}, budget {}, out {} bytes",
+            told(&query.trip),
+            query.pick,
+            query.order,
+            query.budget,
+            query.out_len
         );
         let wanted = expected.after(&got);
         if self.verbose {
@@ -92,7 +97,11 @@ impl Judge {
             Answer::Spent { .. } => "spent",
         };
         self.tally.add("ending", ending);
-        self.tally.add("pick, order and ending", &format!("{} {} {ending}", query.pick, query.order));
+        let class = format!("{} {} {ending}", query.pick, query.order);
+        self.tally.add("pick, order and ending", &class);
+        if query.trip.lock != FREE {
+            self.tally.add("pick, order and ending under a lock", &class);
+        }
     }
 
     /// A failure; where one case is repeated, the plan's records are printed too.
@@ -143,6 +152,11 @@ impl Answer {
         };
         State { reply: PlannerReply { number, opened, length, tests: 0 }, out }
     }
+}
+
+/// The ends and the lock, in words.
+fn told(trip: &Trip) -> String {
+    format!("from {} to {}, mask {}, values {}", trip.s, trip.t, trip.lock.mask, trip.lock.values)
 }
 
 fn fields(record: &Record) -> String {

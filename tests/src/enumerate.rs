@@ -1,6 +1,7 @@
 //! All routes and all settings, one after the other. Nothing is cut off, and
 //! nothing is shared between routes.
 
+use crate::lock::{is_on, Lock, FREE};
 use crate::plan::{About, Belt, Literal, Plan};
 
 #[derive(Clone, Debug)]
@@ -10,7 +11,7 @@ pub struct Route {
     pub cost: u64,
     /// Bit i is set if the i-th named belt is on the route.
     pub named: u64,
-    /// The lowest setting under which every rule is met.
+    /// The lowest setting that agrees with the lock and under which every rule is met.
     pub setting: Option<u64>,
 }
 
@@ -34,7 +35,8 @@ pub fn comes_before(a: &Route, b: &Route) -> bool {
     false
 }
 
-/// All routes from s to t, the first one first, or nothing if they are too many.
+/// All routes from s to t, the first one first, or nothing if they are too many. No mode
+/// is locked.
 pub fn routes(plan: &Plan, s: usize, t: usize, limits: Limits) -> Option<Vec<Route>> {
     let mut walk = Walk { leaving: vec![Vec::new(); plan.junctions + 1], t, limits, found: Vec::new() };
     for belt in &plan.belts {
@@ -94,18 +96,30 @@ fn route(plan: &Plan, named: &[usize], belts: &[&Belt]) -> Route {
     Route {
         cost: belts.iter().map(|belt| belt.cost).sum(),
         named: bits,
-        setting: lowest_setting(plan, &names),
+        setting: lowest_setting(plan, &FREE, &names),
         belts: names,
     }
 }
 
-/// Counts upward through all settings to the first that works.
-fn lowest_setting(plan: &Plan, belts: &[usize]) -> Option<u64> {
+/// The same routes under a lock.
+pub fn under(plan: &Plan, lock: &Lock, routes: &[Route]) -> Vec<Route> {
+    let locked = |route: &Route| Route { setting: lowest_setting(plan, lock, &route.belts), ..route.clone() };
+    routes.iter().map(locked).collect()
+}
+
+/// The first permitted one of some listed routes.
+pub fn first_permitted(routes: &[Route]) -> Option<&Route> {
+    routes.iter().find(|route| route.setting.is_some())
+}
+
+/// Counts upward through all settings to the first that agrees and works.
+fn lowest_setting(plan: &Plan, lock: &Lock, belts: &[usize]) -> Option<u64> {
     let mut on = vec![false; 1 + plan.belts.iter().map(|belt| belt.name).max().unwrap_or(0)];
     for name in belts {
         on[*name] = true;
     }
-    (0..1 << plan.modes).find(|setting| works(plan, &|name| on[name], *setting))
+    let fits = |setting: &u64| lock.agrees(plan.modes, *setting) && works(plan, &|name| on[name], *setting);
+    (0..1 << plan.modes).find(fits)
 }
 
 /// Every rule is met on this route under this setting.
@@ -114,9 +128,9 @@ pub fn works(plan: &Plan, on_route: &dyn Fn(usize) -> bool, setting: u64) -> boo
 }
 
 /// Some literal of the rule holds.
-pub fn met(rule: &[Literal], on_route: &dyn Fn(usize) -> bool, setting: u64) -> bool {
+fn met(rule: &[Literal], on_route: &dyn Fn(usize) -> bool, setting: u64) -> bool {
     rule.iter().any(|literal| match literal.about {
         About::Belt(name) => on_route(name) == literal.wanted,
-        About::Mode(mode) => (setting >> (mode - 1) & 1 == 1) == literal.wanted,
+        About::Mode(mode) => is_on(setting, mode) == literal.wanted,
     })
 }

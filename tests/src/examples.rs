@@ -4,7 +4,8 @@
 
 use crate::call;
 use crate::compare::{Judge, Verdict};
-use crate::refusals::{self, Query, SHEET_MAX};
+use crate::lock::FREE;
+use crate::refusals::{self, Query, Trip, SHEET_MAX};
 use crate::rng::Rng;
 use std::path::Path;
 
@@ -27,12 +28,12 @@ fn run_plan(bytes: &[u8], judge: &mut Judge) -> Verdict {
         Err(line) => return judge.plan(bytes, line),
     };
     judge.plan(bytes, 0)?;
-    let (s, t) = (1, plan.junctions as u64);
+    let trip = Trip { s: 1, t: plan.junctions as u64, lock: FREE };
     for (pick, order) in [(0, 0), (0, 1), (1, 0), (1, 1), (2, 0), (2, 1)] {
-        let query = Query { s, t, pick, order, budget: BUDGET, out_len: SHEET_MAX };
+        let query = Query { trip, pick, order, budget: BUDGET, out_len: SHEET_MAX };
         let got = call::search(bytes, &query, &mut Rng::new(0));
         if got.reply.number == 0 {
-            judge.check(bytes, s, t, &got.out[..got.reply.length as usize], 0)?;
+            judge.check(bytes, &trip, &got.out[..got.reply.length as usize], 0)?;
         }
     }
     Ok(())

@@ -311,13 +311,18 @@ fn permit_some_route(draft: &mut Draft, rng: &mut Rng) {
     }
 }
 
-/// Adds a few rules against belts that other routes have and this one has not.
+/// Adds a few rules against belts that other routes have and this one has not. Some of
+/// these rules a mode meets too, so that a lock on it says whether the belt may be used.
 fn forbid_others(draft: &mut Draft, on_route: &[bool], rng: &mut Rng) {
     for _ in 0..rng.range(0, 4) {
         let other = walk(draft, rng);
         let apart: Vec<usize> = (0..other.len()).filter(|place| other[*place] && !on_route[*place]).collect();
         if let Some(place) = rng.pick(&apart) {
-            draft.rules.push(vec![Literal { wanted: false, about: About::Belt(place) }]);
+            let mut rule = vec![Literal { wanted: false, about: About::Belt(place) }];
+            if draft.modes > 0 && rng.chance(1, 2) {
+                rule.push(Literal { wanted: rng.chance(1, 2), about: About::Mode(rng.range(1, draft.modes)) });
+            }
+            draft.rules.push(rule);
         }
     }
 }

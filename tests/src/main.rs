@@ -17,6 +17,8 @@ mod examples;
 mod generate;
 mod halves;
 mod layout;
+mod lock;
+mod locked;
 mod plan;
 mod refusals;
 mod rng;

@@ -1,19 +1,28 @@
 //! The table of refusals as a plain predicate over bytes: for each line of the
-//! table one function that says whether it is broken. A line is only asked once
-//! every line before it is unbroken over the whole input.
+//! table one function that says whether it is broken. Each of the library's
+//! functions has its own list of lines, and the first broken one in the list is the
+//! answer. The lines 1 to 7 are of the plan alone and come first in every list.
 
-use crate::enumerate::met;
+use crate::enumerate::works;
+use crate::lock::Lock;
 use crate::plan::{
     records_of, About, Belt, Literal, Plan, Record, MAX_JUNCTIONS, MAX_MODES, MAX_NAMED, MAX_RECORDS, RECORD,
 };
 
 pub const SHEET_MAX: usize = 3072;
 
+/// What a search and a check of a sheet are asked alike.
+#[derive(Clone, Copy, Debug)]
+pub struct Trip {
+    pub s: u64,
+    pub t: u64,
+    pub lock: Lock,
+}
+
 /// The parameters of a search, and the length of the buffer lent to it.
 #[derive(Clone, Debug)]
 pub struct Query {
-    pub s: u64,
-    pub t: u64,
+    pub trip: Trip,
     pub pick: u64,
     pub order: u64,
     pub budget: u64,
@@ -38,38 +47,36 @@ pub fn read(bytes: &[u8]) -> Result<Plan, u64> {
     Ok(plan_of(&records))
 }
 
-/// The line that a search of a valid plan breaks first: 8 to 10.
-pub fn search_line(plan: &Plan, query: &Query) -> Option<u64> {
-    if line_8(plan, query.s, query.t) {
-        Some(8)
-    } else if query.pick > 2 || query.order > 1 || query.budget == 0 {
-        Some(9)
-    } else if query.out_len < SHEET_MAX {
-        Some(10)
-    } else {
-        None
-    }
+/// The lines that a search of a valid plan breaks, in the order of its list: 8, 15, 9, 10.
+pub fn search_lines(plan: &Plan, query: &Query) -> Vec<u64> {
+    let Query { trip, .. } = query;
+    broken(&[
+        (8, line_8(plan, trip)),
+        (15, line_15(plan, trip)),
+        (9, query.pick > 2 || query.order > 1 || query.budget == 0),
+        (10, query.out_len < SHEET_MAX),
+    ])
 }
 
-/// The line that a check against a valid plan breaks first: 8, then 11 to 14.
-pub fn check_line(plan: &Plan, s: u64, t: u64, sheet: &[u8]) -> Option<u64> {
-    if line_8(plan, s, t) {
-        return Some(8);
-    }
+/// The lines that a check against a valid plan breaks, in the order of its list: 8, 15, 11
+/// to 14. The last three are only asked of a sheet that has the form.
+pub fn check_lines(plan: &Plan, trip: &Trip, sheet: &[u8]) -> Vec<u64> {
+    let mut lines = vec![(8, line_8(plan, trip)), (15, line_15(plan, trip))];
     if line_11(plan, sheet) {
-        return Some(11);
+        lines.push((11, true));
+        return broken(&lines);
     }
     let records = records_of(sheet);
     let belts: Vec<&Belt> = records[1..].iter().map(|step| plan.belt(step[2].into()).expect("line 11")).collect();
-    if line_12(&belts, s as usize, t as usize) {
-        Some(12)
-    } else if line_13(&belts, &records[0]) {
-        Some(13)
-    } else if line_14(plan, &belts, u64::from(records[0][5])) {
-        Some(14)
-    } else {
-        None
-    }
+    lines.push((12, line_12(&belts, trip)));
+    lines.push((13, line_13(&belts, &records[0])));
+    lines.push((14, line_14(plan, &belts, &trip.lock, records[0][5].into())));
+    broken(&lines)
+}
+
+/// The broken ones of some lines.
+fn broken(lines: &[(u64, bool)]) -> Vec<u64> {
+    lines.iter().filter(|(_, broken)| *broken).map(|(number, _)| *number).collect()
 }
 
 /// Plan under 24 or over 24,576 bytes, or not 12 times f4 of record 0.
@@ -188,9 +195,9 @@ fn line_7(records: &[Record]) -> bool {
 }
 
 /// s or t outside 1 to J.
-fn line_8(plan: &Plan, s: u64, t: u64) -> bool {
+fn line_8(plan: &Plan, trip: &Trip) -> bool {
     let junctions = plan.junctions as u64;
-    s < 1 || s > junctions || t < 1 || t > junctions
+    [trip.s, trip.t].iter().any(|end| *end < 1 || *end > junctions)
 }
 
 /// Sheet empty, too long or not in the form, a step that is no belt, or a setting too large.
@@ -213,15 +220,15 @@ fn line_11(plan: &Plan, sheet: &[u8]) -> bool {
 }
 
 /// The belts are not a route from s to t.
-fn line_12(belts: &[&Belt], s: usize, t: usize) -> bool {
-    let mut at = s;
+fn line_12(belts: &[&Belt], trip: &Trip) -> bool {
+    let mut at = trip.s;
     for belt in belts {
-        if belt.from != at {
+        if belt.from as u64 != at {
             return true;
         }
-        at = belt.to;
+        at = belt.to as u64;
     }
-    at != t
+    at != trip.t
 }
 
 /// The cost, 48 bits high first, differs from the sum.
@@ -231,10 +238,15 @@ fn line_13(belts: &[&Belt], head: &Record) -> bool {
     cost != belts.iter().map(|belt| belt.cost).sum::<u64>()
 }
 
-/// A rule is not met under the sheet's setting.
-fn line_14(plan: &Plan, belts: &[&Belt], setting: u64) -> bool {
+/// A rule is not met under the sheet's setting, or the setting breaks the lock.
+fn line_14(plan: &Plan, belts: &[&Belt], lock: &Lock, setting: u64) -> bool {
     let on_route = |name: usize| belts.iter().any(|belt| belt.name == name);
-    !plan.rules.iter().all(|rule| met(rule, &on_route, setting))
+    !works(plan, &on_route, setting) || !lock.agrees(plan.modes, setting)
+}
+
+/// Mask with a bit at or above M, or a value with a bit outside the mask.
+fn line_15(plan: &Plan, trip: &Trip) -> bool {
+    trip.lock.is_wrong(plan.modes)
 }
 
 /// The plan that unrefused records stand for.

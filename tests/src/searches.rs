@@ -1,56 +1,82 @@
-//! The searches of a case: all picks and orders, several budgets, and queries
-//! that have to be refused.
+//! The searches of a case: all picks and orders, several budgets, with and without a
+//! lock, and queries that have to be refused.
 
 use crate::case::{rank, Case, Scene};
 use crate::compare::{Answer, Verdict};
 use crate::enumerate::{self, Limits, Route};
 use crate::halves;
+use crate::lock::{self, Lock};
 use crate::plan::RECORD;
-use crate::refusals::{self, Query, SHEET_MAX};
+use crate::refusals::{self, Query, Trip, SHEET_MAX};
 use crate::sheet;
 use crate::written::{self, Ending};
 
 /// A search is dear if it may look at more literals than this.
 const LITERALS_READ: u64 = 1 << 22;
 
-const PICKS_AND_ORDERS: [(u64, u64); 6] = [(0, 0), (0, 1), (1, 0), (1, 1), (2, 0), (2, 1)];
+pub const PICKS_AND_ORDERS: [(u64, u64); 6] = [(0, 0), (0, 1), (1, 0), (1, 1), (2, 0), (2, 1)];
 
 impl Case<'_> {
-    /// All picks and orders, several budgets, and sheets from s to t.
+    /// Searches and sheets from s to t, with or without a lock.
     pub fn pair(&mut self, scene: &Scene, s: usize, t: usize) -> Verdict {
         // In a large plan each opened subproblem is dear.
         let most = if scene.bytes.len() > 6000 { 40 } else { 300 };
-        let Some(routes) = enumerate::routes(&scene.plan, s, t, Limits { routes: most, belts_tried: 100_000 }) else {
+        let Some(free) = enumerate::routes(&scene.plan, s, t, Limits { routes: most, belts_tried: 100_000 }) else {
             self.judge.tally.add("queries", "too many routes, passed over");
             return Ok(());
         };
         self.judge.tally.add("queries", ["s < t", "s = t", "s > t"][usize::from(s >= t) + usize::from(s > t)]);
-        self.note_routes(scene, &routes);
+        let modes = scene.plan.modes;
+        let trip = Trip { s: s as u64, t: t as u64, lock: lock::right(modes, &mut self.rng) };
+        let routes = enumerate::under(&scene.plan, &trip.lock, &free);
+        self.note_routes(scene, &trip.lock, &routes);
         self.note_halves(scene, &routes);
+        self.note_lock(scene, &trip.lock, &free, &routes);
+        self.searches(scene, &trip, &routes)?;
+        self.sheets(scene, &trip, &routes)?;
+        if (1..=4).contains(&modes) && self.rng.chance(1, 100) {
+            self.every_lock(scene, &trip, &free)?;
+        }
+        Ok(())
+    }
+
+    /// All picks and orders, and several budgets.
+    fn searches(&mut self, scene: &Scene, trip: &Trip, routes: &[Route]) -> Verdict {
         let mut counts = Vec::new();
         for (pick, order) in PICKS_AND_ORDERS {
-            let (_, count) = written::search(&routes, &scene.named, pick, order, u64::MAX);
-            counts.push(count);
-            let (name, budget) = self.large_budget(scene, count);
-            self.judge.tally.add("budgets", name);
-            let query = self.query(s, t, pick, order, budget);
-            self.asked(scene, &routes, &query)?;
+            counts.push(self.enough_asked(scene, trip, routes, pick, order)?);
         }
         self.note_counts(&counts);
-        self.own_sheet(scene, &routes, s, t)?;
+        self.own_sheet(scene, trip, routes)?;
         let choice = self.rng.below(PICKS_AND_ORDERS.len());
         let (pick, order) = PICKS_AND_ORDERS[choice];
-        let query = self.query(s, t, pick, order, 1);
-        self.budgets(scene, &routes, query, counts[choice])?;
-        self.sheets(scene, &routes, s, t)
+        let query = self.query(trip, pick, order, 1);
+        self.budgets(scene, routes, query, counts[choice])
+    }
+
+    /// A search with a budget that is enough, or else affordable; how many one that ends opens.
+    pub fn enough_asked(
+        &mut self,
+        scene: &Scene,
+        trip: &Trip,
+        routes: &[Route],
+        pick: u64,
+        order: u64,
+    ) -> Result<u64, String> {
+        let (_, count) = written::search(routes, &scene.named, pick, order, u64::MAX);
+        let (name, budget) = self.large_budget(scene, count);
+        self.judge.tally.add("budgets", name);
+        let query = self.query(trip, pick, order, budget);
+        self.asked(scene, routes, &query)?;
+        Ok(count)
     }
 
     /// The sheet that the searches wrote is accepted.
-    fn own_sheet(&mut self, scene: &Scene, routes: &[Route], s: usize, t: usize) -> Verdict {
-        let permitted = |route: &&Route| route.setting.is_some();
-        let Some(Route { belts, cost, setting, .. }) = routes.iter().find(permitted) else { return Ok(()) };
+    fn own_sheet(&mut self, scene: &Scene, trip: &Trip, routes: &[Route]) -> Verdict {
+        let Some(route) = enumerate::first_permitted(routes) else { return Ok(()) };
+        let Route { belts, cost, setting, .. } = route;
         let sheet = sheet::write(belts, *cost, setting.expect("permitted"));
-        self.judge.check(&scene.bytes, s as u64, t as u64, &sheet, 0)
+        self.judge.check(&scene.bytes, trip, &sheet, 0)
     }
 
     /// Counts whether the opened counts, by pick and order, tell these apart.
@@ -68,7 +94,7 @@ impl Case<'_> {
     }
 
     /// Counts what sort of route is to be found.
-    fn note_routes(&mut self, scene: &Scene, routes: &[Route]) {
+    fn note_routes(&mut self, scene: &Scene, lock: &Lock, routes: &[Route]) {
         let Some(first) = routes.iter().position(|route| route.setting.is_some()) else { return };
         let best = &routes[first];
         let steps = best.belts.len();
@@ -77,8 +103,9 @@ impl Case<'_> {
         let tie = routes[first + 1..].iter().any(|route| route.cost == best.cost && route.setting.is_some());
         let lowest = best.setting.expect("permitted");
         let on_route = |name: usize| best.belts.contains(&name);
-        let mut higher = lowest + 1..1 << scene.plan.modes;
-        let several = scene.plan.modes <= 4 && higher.any(|setting| enumerate::works(&scene.plan, &on_route, setting));
+        let modes = scene.plan.modes;
+        let works = |setting| lock.agrees(modes, setting) && enumerate::works(&scene.plan, &on_route, setting);
+        let several = modes <= 4 && (lowest + 1..1 << modes).any(works);
         let found = [
             ("cheapest route not permitted", first > 0),
             ("first of equally cheap permitted routes", tie),
@@ -113,8 +140,8 @@ impl Case<'_> {
         [("2^(k+1) - 1", enough(scene)), ("1000000", 1_000_000), ("2^64 - 1", u64::MAX)][self.rng.below(3)]
     }
 
-    pub fn query(&mut self, s: usize, t: usize, pick: u64, order: u64, budget: u64) -> Query {
-        Query { s: s as u64, t: t as u64, pick, order, budget, out_len: self.out_len() }
+    pub fn query(&mut self, trip: &Trip, pick: u64, order: u64, budget: u64) -> Query {
+        Query { trip: *trip, pick, order, budget, out_len: self.out_len() }
     }
 
     /// The length of a buffer that is large enough, mostly just so.
@@ -175,37 +202,47 @@ impl Case<'_> {
         Ok(())
     }
 
-    /// Queries that break one or several of the lines 8, 9 and 10.
+    /// Queries that break one or several of the lines 8, 15, 9 and 10.
     pub fn bad_queries(&mut self, scene: &Scene) -> Verdict {
-        for _ in 0..6 {
-            let query = self.bad_query(scene.plan.junctions);
-            let Some(line) = refusals::search_line(&scene.plan, &query) else {
+        for _ in 0..8 {
+            let query = self.bad_query(scene.plan.junctions, scene.plan.modes);
+            let lines = refusals::search_lines(&scene.plan, &query);
+            let Some(first) = lines.first().copied() else {
                 return Err(format!("the tests' own predicate does not refuse {query:?}"));
             };
-            self.judge.search(&scene.bytes, &query, &Answer::Refused(line))?;
-            let sheet = if self.rng.chance(1, 4) { Vec::new() } else { self.sheet.clone() };
-            let expected = refusals::check_line(&scene.plan, query.s, query.t, &sheet).unwrap_or(0);
-            self.judge.check(&scene.bytes, query.s, query.t, &sheet, expected)?;
+            self.judge.tally.add_lines("lines broken, search", &lines);
+            if first == 15 {
+                self.note_wrong_lock("wrong locks, search", scene, &query.trip);
+            }
+            self.judge.search(&scene.bytes, &query, &Answer::Refused(first))?;
+            let sheet = match self.rng.below(4) {
+                0 => Vec::new(),
+                1 => self.damaged_sheet(scene, &query.trip, self.sheet.clone()),
+                _ => self.sheet.clone(),
+            };
+            self.checked(scene, &query.trip, &sheet)?;
         }
         Ok(())
     }
 
-    /// A query with one to three wrong parts.
-    pub fn bad_query(&mut self, junctions: usize) -> Query {
-        let (s, t) = (self.rng.range(1, junctions), self.rng.range(1, junctions));
+    /// A query with one to four wrong parts.
+    pub fn bad_query(&mut self, junctions: usize, modes: usize) -> Query {
+        let [s, t] = [(); 2].map(|()| self.rng.range(1, junctions) as u64);
+        let trip = Trip { s, t, lock: lock::right(modes, &mut self.rng) };
         let (pick, order) = PICKS_AND_ORDERS[self.rng.below(6)];
-        let mut query = self.query(s, t, pick, order, u64::MAX);
+        let mut query = self.query(&trip, pick, order, u64::MAX);
         let over = [0, junctions as u64 + 1, 257, 65_536, 65_537, (1 << 32) + 1, 1 << 63, (1 << 63) + 1, u64::MAX];
-        let parts = self.rng.range(1, 3);
+        let parts = self.rng.range(1, 4);
         for _ in 0..parts {
             let value = over[self.rng.below(over.len())];
-            match self.rng.below(6) {
-                0 => query.s = value,
-                1 => query.t = value,
+            match self.rng.below(8) {
+                0 => query.trip.s = value,
+                1 => query.trip.t = value,
                 2 => query.pick = [3, 4, 256, 1 << 32, (1 << 32) + 2, u64::MAX][self.rng.below(6)],
                 3 => query.order = [2, 3, 256, 1 << 32, (1 << 32) + 1, u64::MAX][self.rng.below(6)],
                 4 => query.budget = 0,
-                _ => query.out_len = [0, 1, 12, 24, 3060, 3071][self.rng.below(6)],
+                5 => query.out_len = [0, 1, 12, 24, 3060, 3071][self.rng.below(6)],
+                _ => query.trip.lock = lock::wrong(modes, &mut self.rng),
             }
         }
         query

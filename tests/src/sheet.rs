@@ -3,6 +3,7 @@
 //! it hits.
 
 use crate::enumerate::works;
+use crate::lock::Lock;
 use crate::plan::{bytes_of, field, records_of, set_field, Plan, Record, RECORD};
 use crate::refusals::SHEET_MAX;
 use crate::rng::Rng;
@@ -19,10 +20,11 @@ pub fn write(belts: &[usize], cost: u64, setting: u64) -> Vec<u8> {
     bytes_of(&records)
 }
 
-/// The plan a sheet is for.
+/// The plan a sheet is for, and the lock it is checked under.
 pub struct Around<'a> {
     pub plan: &'a Plan,
     pub plan_bytes: &'a [u8],
+    pub lock: Lock,
 }
 
 type Apply = Box<dyn Fn(&mut Vec<u8>, &Around, &mut Rng) -> Option<()>>;
@@ -274,18 +276,23 @@ fn add_settings(damages: &mut Vec<Damage>) {
         let with_bit = over | field(sheet, 0, 5);
         set_other(sheet, 0, 5, &[over + 1, with_bit, 1024, 2048, 32_768, 65_535], rng)
     });
-    add(damages, 14, "setting does not work", |sheet, around, rng| set_setting(sheet, around, rng, false));
-    add(damages, 0, "setting works", |sheet, around, rng| set_setting(sheet, around, rng, true));
+    add(damages, 14, "setting does not work", |sheet, around, rng| set_setting(sheet, around, rng, true, false));
+    add(damages, 14, "setting breaks the lock", |sheet, around, rng| set_setting(sheet, around, rng, false, true));
+    add(damages, 14, "setting breaks both", |sheet, around, rng| set_setting(sheet, around, rng, false, false));
+    add(damages, 0, "setting works", |sheet, around, rng| set_setting(sheet, around, rng, true, true));
 }
 
-/// Sets some setting under which all rules are met, or one under which some rule is not.
-fn set_setting(sheet: &mut [u8], around: &Around, rng: &mut Rng, working: bool) -> Option<()> {
+/// Sets some setting that agrees with the lock or breaks it, and under which all rules are
+/// met or some rule is not.
+fn set_setting(sheet: &mut [u8], around: &Around, rng: &mut Rng, agreeing: bool, working: bool) -> Option<()> {
+    let Around { plan, lock, .. } = around;
     let belts: Vec<usize> = records_of(sheet)[1..].iter().map(|step| step[2].into()).collect();
     let on_route = |name: usize| belts.contains(&name);
     // A dozen tries find one or leave the sheet alone.
     for _ in 0..12 {
-        let setting = rng.below(1 << around.plan.modes) as u64;
-        if works(around.plan, &on_route, setting) == working {
+        let any = rng.below(1 << plan.modes) as u64;
+        let setting = if agreeing { lock.put_into(plan.modes, any) } else { any };
+        if lock.agrees(plan.modes, setting) == agreeing && works(plan, &on_route, setting) == working {
             return put(sheet, 0, 5, setting as u16);
         }
     }

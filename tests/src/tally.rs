@@ -7,8 +7,26 @@ pub struct Tally {
     groups: BTreeMap<&'static str, BTreeMap<String, u64>>,
 }
 
+/// Sorts of locks that line 15 refuses.
+const WRONG_LOCKS: &[&str] = &[
+    "mask 2^M",
+    "mask 2^M and modes",
+    "mask with a bit above M",
+    "mask with bit 63",
+    "mask 1024 with ten modes",
+    "mask that ten modes would have",
+    "mask right if cut to 16 bits",
+    "mask right if cut to 32 bits",
+    "value of a mode that is not locked",
+    "value with mask 0",
+    "value at or above M alone",
+    "values right if cut to 16 bits",
+    "values right if cut to 32 bits",
+    "mask and values wrong",
+];
+
 /// Classes of plans, searches and sheets that a whole run has to reach.
-const CLASSES: [(&str, &[&str]); 11] = [
+const CLASSES: [(&str, &[&str]); 19] = [
     ("junctions", &["1", "2..12", "13..255", "256", "257 (refused)"]),
     ("modes", &["11 (refused)"]),
     ("records", &["J + 1", "up to 100", "up to 255", "256", "257", "up to 2047", "2048", "2049 (refused)"]),
@@ -65,6 +83,71 @@ const CLASSES: [(&str, &[&str]); 11] = [
             "damaged and still valid",
         ],
     ),
+    ("locks", &["no mode", "some modes", "every mode", "mode 10"]),
+    ("every lock, by modes", &["1", "2", "3", "4"]),
+    (
+        "what a lock changes",
+        &[
+            "the route",
+            "a route into none",
+            "the opened count",
+            "the setting alone",
+            "the setting, in a mode that is not locked",
+            "the setting, in a mode that no rule names",
+        ],
+    ),
+    (
+        "sheets under a lock",
+        &[
+            "accepted",
+            "14, a rule is not met",
+            "14, the lock is broken",
+            "14, the lock is broken and a rule is not met",
+            "13, and the lock is broken",
+            "12, and the lock is broken",
+            "11, and the lock is broken",
+        ],
+    ),
+    ("wrong locks, search", WRONG_LOCKS),
+    ("wrong locks, check", WRONG_LOCKS),
+    (
+        "lines broken, search",
+        &[
+            "8 alone",
+            "15 alone",
+            "9 alone",
+            "10 alone",
+            "8 before 15",
+            "8 before 9",
+            "8 before 10",
+            "15 before 9",
+            "15 before 10",
+            "9 before 10",
+        ],
+    ),
+    (
+        "lines broken, check",
+        &[
+            "8 alone",
+            "15 alone",
+            "11 alone",
+            "12 alone",
+            "13 alone",
+            "14 alone",
+            "8 before 15",
+            "8 before 11",
+            "8 before 12",
+            "8 before 13",
+            "8 before 14",
+            "15 before 11",
+            "15 before 12",
+            "15 before 13",
+            "15 before 14",
+            "12 before 13",
+            "12 before 14",
+            "13 before 14",
+        ],
+    ),
 ];
 
 impl Tally {
@@ -74,6 +157,19 @@ impl Tally {
             Some(count) => *count += 1,
             None => {
                 names.insert(name.to_string(), 1);
+            }
+        }
+    }
+
+    /// Counts the first of some broken lines, alone or before each of the others.
+    pub fn add_lines(&mut self, group: &'static str, lines: &[u64]) {
+        match lines {
+            [] => {}
+            [only] => self.add(group, &format!("{only} alone")),
+            [first, others @ ..] => {
+                for other in others {
+                    self.add(group, &format!("{first} before {other}"));
+                }
             }
         }
     }
@@ -98,12 +194,15 @@ impl Tally {
             required.extend(names.iter().map(|name| (group, name.to_string())));
         }
         required.extend((0..=7).map(|number| ("answers of planner_check_plan", number.to_string())));
-        required.extend((0..=10).chain([100, 101]).map(|number| ("answers of planner_search", number.to_string())));
-        required.extend((0..=8).chain(11..=14).map(|number| ("answers of planner_check_sheet", number.to_string())));
+        let searches = (0..=10).chain([15, 100, 101]);
+        required.extend(searches.map(|number| ("answers of planner_search", number.to_string())));
+        required.extend((0..=8).chain(11..=15).map(|number| ("answers of planner_check_sheet", number.to_string())));
         required.extend((0..=10).map(|modes| ("modes", modes.to_string())));
         for ending in ["route", "none", "spent"] {
             for (pick, order) in [(0, 0), (0, 1), (1, 0), (1, 1), (2, 0), (2, 1)] {
-                required.push(("pick, order and ending", format!("{pick} {order} {ending}")));
+                for group in ["pick, order and ending", "pick, order and ending under a lock"] {
+                    required.push((group, format!("{pick} {order} {ending}")));
+                }
             }
         }
         let reached = |group: &str, name: &str| self.groups.get(group).is_some_and(|names| names.contains_key(name));

@@ -1,6 +1,7 @@
 //! The search as it is written down, step by step, over the listed routes: the
 //! relaxed route of a subproblem is the first listed one that has every
-//! required and no forbidden belt.
+//! required and no forbidden belt. A route is permitted if it has a setting under
+//! the lock with which it is listed; nothing else here depends on the lock.
 
 use crate::enumerate::{comes_before, Route};
 use crate::plan::{About, Plan};

@@ -18,7 +18,7 @@ mod words;
 
 use crate::check;
 use crate::query::{Answer, Query, NONE, ROUTE, SPENT};
-use crate::records::SHEET_MAX;
+use crate::records::{Record, SHEET_MAX};
 use depot::Depot;
 use search::{Ending, Search};
 
@@ -32,7 +32,7 @@ pub fn search(plan: &[u8], query: &Query, out: &mut [u8]) -> Answer {
 
 fn answer(plan: &[u8], query: &Query, out: &mut [u8]) -> Result<Answer, u64> {
     let records = check::check(plan)?;
-    check_query(query, records[0][1].into(), out.len())?;
+    check_query(query, &records[0], out.len())?;
     let depot = Depot::new(&records, query.pick);
     let mut search = Search::new(&depot, query);
     let ending = search.run();
@@ -47,11 +47,15 @@ fn answer(plan: &[u8], query: &Query, out: &mut [u8]) -> Result<Answer, u64> {
     })
 }
 
-/// Lines 8 to 10 of the refusal table.
-fn check_query(query: &Query, junctions: u64, room: usize) -> Result<(), u64> {
-    let known = 1..=junctions;
+/// Lines 8, 15, 9 and 10 of the refusal table, in this order.
+fn check_query(query: &Query, head: &Record, room: usize) -> Result<(), u64> {
+    let [_, junctions, modes, ..] = *head;
+    let known = 1..=u64::from(junctions);
     if !known.contains(&query.s) || !known.contains(&query.t) {
         return Err(8);
+    }
+    if query.mask >> modes != 0 || query.values & !query.mask != 0 {
+        return Err(15);
     }
     if query.pick > 2 || query.order > 1 || query.budget == 0 {
         return Err(9);

@@ -67,7 +67,7 @@ impl<'a> Search<'a> {
             return;
         }
         let on_route = self.relaxation.named();
-        if let Some(setting) = lowest_setting(self.depot, on_route) {
+        if let Some(setting) = lowest_setting(self.depot, &self.query, on_route) {
             let belts = self.relaxation.belts().collect();
             self.best = Some(Best { cost, belts, setting });
         } else if sub.unfixed != 0 {

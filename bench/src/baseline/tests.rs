@@ -1,5 +1,5 @@
-//! The baseline against the scope paper's examples and refusals. The paper's
-//! numbers are written out here, so that both sides of the benchmark cannot
+//! The baseline against the scope paper's examples and refusals, and under locks.
+//! The numbers are written out here, so that both sides of the benchmark cannot
 //! agree on a wrong search.
 
 use crate::baseline::search;
@@ -45,7 +45,7 @@ fn ask(records: &[Record], query: Query) -> (Answer, Vec<u8>) {
     (answer, sheet.to_vec())
 }
 
-const QUERY: Query = Query { s: 1, t: 3, pick: 0, order: 0, budget: 1_000_000 };
+const QUERY: Query = Query { s: 1, t: 3, pick: 0, order: 0, budget: 1_000_000, mask: 0, values: 0 };
 
 fn expect_route(records: &[Record], query: Query, opened: u64, sheet: &[Record]) {
     let (answer, written) = ask(records, query);
@@ -58,7 +58,9 @@ fn expect_no_route(records: &[Record], query: Query, number: u64, opened: u64) {
     assert_eq!(ask(records, query).0, Answer { number, opened, length: 0 });
 }
 
-const BELT_5: [Record; 2] = [[8, 1, 0, 0, 9, 0], [5, 0, 5, 0, 0, 0]];
+fn belt_5(setting: u16) -> [Record; 2] {
+    [[8, 1, 0, 0, 9, setting], [5, 0, 5, 0, 0, 0]]
+}
 
 fn belts_4_6(setting: u16) -> [Record; 3] {
     [[8, 1, 0, 0, 7, setting], [5, 2, 4, 0, 0, 0], [5, 0, 6, 0, 0, 0]]
@@ -66,13 +68,16 @@ fn belts_4_6(setting: u16) -> [Record; 3] {
 
 #[test]
 fn examples_on_p() {
-    expect_route(&P, QUERY, 5, &BELT_5); // E1
-    expect_route(&P, Query { order: 1, ..QUERY }, 5, &BELT_5); // E2
+    expect_route(&P, QUERY, 5, &belt_5(0)); // E1
+    expect_route(&P, Query { order: 1, ..QUERY }, 5, &belt_5(0)); // E2
     expect_no_route(&P, Query { budget: 4, ..QUERY }, SPENT, 4); // E3
-    expect_route(&P, Query { budget: 5, ..QUERY }, 5, &BELT_5); // E4
+    expect_route(&P, Query { budget: 5, ..QUERY }, 5, &belt_5(0)); // E4
     expect_route(&P, Query { t: 1, ..QUERY }, 1, &[[8, 0, 0, 0, 0, 0]]); // E5
     expect_no_route(&P, Query { s: 3, t: 1, ..QUERY }, NONE, 1); // E6
 }
+
+/// The rule of E10.
+const NOT_4_OR_MODE_1: [Record; 3] = [P[7], [4, 9, 0, 0, 4, 0], [4, 0, 1, 1, 1, 0]];
 
 #[test]
 fn examples_with_other_rules() {
@@ -82,10 +87,80 @@ fn examples_with_other_rules() {
     expect_route(&free, QUERY, 1, &belts_4_6(0)); // E8
     let not_5 = [[3, 10, 8, 0, 0, 0], P[8], P[9], [3, 0, 11, 0, 0, 0], [4, 0, 0, 0, 5, 0]];
     expect_no_route(&with_rules(&not_5), QUERY, NONE, 11); // E9
-    let mode = [P[7], [4, 9, 0, 0, 4, 0], [4, 0, 1, 1, 1, 0]];
-    expect_route(&with_rules(&mode), QUERY, 1, &belts_4_6(1)); // E10
+    expect_route(&with_rules(&NOT_4_OR_MODE_1), QUERY, 1, &belts_4_6(1)); // E10
     let clash = [[3, 9, 8, 0, 0, 0], [4, 0, 1, 1, 1, 0], [3, 0, 10, 0, 0, 0], [4, 0, 0, 1, 1, 0]];
     expect_no_route(&with_rules(&clash), QUERY, NONE, 1); // E11
+}
+
+fn locked(mask: u64, values: u64) -> Query {
+    Query { mask, values, ..QUERY }
+}
+
+/// The setting is the lowest one within the lock, whatever the rules name.
+#[test]
+fn locks_and_settings() {
+    expect_route(&P, locked(1, 0), 5, &belt_5(0));
+    expect_route(&P, locked(1, 1), 5, &belt_5(1));
+    let two_modes = |wanted| {
+        let mut plan = with_rules(&[P[7], [4, 9, wanted, 1, 1, 0], [4, 0, 1, 1, 2, 0]]);
+        plan[0][2] = 2;
+        plan
+    };
+    let either = two_modes(1); // mode 1, or mode 2
+    expect_route(&either, QUERY, 1, &belts_4_6(1));
+    expect_route(&either, locked(1, 0), 1, &belts_4_6(2));
+    expect_route(&either, locked(2, 2), 1, &belts_4_6(2));
+    expect_route(&either, locked(3, 3), 1, &belts_4_6(3));
+    expect_no_route(&either, locked(3, 0), NONE, 1);
+    let then = two_modes(0); // not mode 1, or mode 2
+    expect_route(&then, QUERY, 1, &belts_4_6(0));
+    expect_route(&then, locked(1, 1), 1, &belts_4_6(3));
+    expect_no_route(&then, locked(3, 1), NONE, 1);
+}
+
+/// A lock says which routes are permitted, and so it changes the count.
+#[test]
+fn locks_and_routes() {
+    let plan = with_rules(&NOT_4_OR_MODE_1);
+    expect_route(&plan, locked(1, 1), 1, &belts_4_6(1));
+    expect_route(&plan, locked(1, 0), 3, &belt_5(0));
+    expect_no_route(&plan, Query { budget: 2, ..locked(1, 0) }, SPENT, 2);
+}
+
+/// The lines of a query are asked in the order 8, 15, 9, 10.
+#[test]
+fn query_refusals() {
+    let refused = |query: Query, room: usize| {
+        let mut out = [0xEE; SHEET_MAX];
+        let answer = search(&bytes(&P), &query, &mut out[..room]);
+        assert_eq!(out, [0xEE; SHEET_MAX]);
+        assert_eq!((answer.opened, answer.length), (0, 0));
+        answer.number
+    };
+    let short = SHEET_MAX - 1;
+    assert_eq!(refused(Query { s: 0, ..locked(2, 0) }, short), 8);
+    assert_eq!(refused(Query { t: 4, ..locked(2, 0) }, SHEET_MAX), 8);
+    for (mask, values) in [(2, 0), (3, 1), (0, 1), (1, 3), (65_537, 1), (1 << 63, 0), (1, 1 << 63)]
+    {
+        assert_eq!(refused(locked(mask, values), SHEET_MAX), 15);
+        assert_eq!(refused(Query { budget: 0, ..locked(mask, values) }, short), 15);
+    }
+    assert_eq!(refused(Query { pick: 3, ..locked(1, 1) }, short), 9);
+    assert_eq!(refused(Query { order: 2, ..QUERY }, short), 9);
+    assert_eq!(refused(Query { budget: 0, ..QUERY }, short), 9);
+    assert_eq!(refused(locked(1, 1), short), 10);
+}
+
+/// With ten modes each of them can be locked, and no eleventh.
+#[test]
+fn locks_of_ten_modes() {
+    let mut plan = P;
+    plan[0][2] = 10;
+    expect_route(&plan, locked(1_023, 1_023), 5, &belt_5(1_023));
+    expect_route(&plan, locked(512, 512), 5, &belt_5(512));
+    expect_no_route(&plan, locked(1_024, 0), 15, 0);
+    plan[0][2] = 0;
+    expect_no_route(&plan, locked(1, 0), 15, 0);
 }
 
 /// Three belts from 1 to 2. The first is forbidden; of the others, which cost the

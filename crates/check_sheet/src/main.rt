@@ -1,5 +1,5 @@
-// Checks a route sheet against a depot plan: `check_sheet PLAN S T SHEET` prints `accepted` where the sheet's belts are a permitted route from
-// S to T under its setting and its cost is theirs, or `refused n: ..` with the number of the first line of the refusal table that is broken, and
+// Checks a route sheet against a depot plan: `check_sheet PLAN S T SHEET [MASK VALUES]` prints `accepted` where the sheet's belts are a
+// permitted route from S to T under its setting, which agrees with the lock, and its cost is theirs, or `refused n: ..` with the number of the first line of the refusal table that is broken, and
 // the table's words for it. PLAN may be - for standard input. Where the arguments or a file are not as they should be, standard error says what
 // is wrong, and nothing else is done.
 //
@@ -14,9 +14,10 @@ use command::refusals;
 use command::version;
 use route::check;
 use route::check::SheetVerdict;
+use route::path::Lock;
 use route::path::Trip;
 
-// What is asked by the arguments: from where to where the sheet is to lead.
+// What is asked by the arguments: from where to where the sheet is to lead, and under which lock.
 enum Wanted {
     Trip(Trip),
     // An argument is no number.
@@ -31,7 +32,20 @@ fn asked() -> Wanted {
     let Number::Is(t) = arguments::number(3, b"T") else {
         return Wanted::Wrong;
     };
-    Wanted::Trip(Trip { s: s, t: t })
+    let Number::Is(mask) = arguments::number_or(5, b"MASK", 0) else {
+        return Wanted::Wrong;
+    };
+    let Number::Is(values) = arguments::number_with(6, b"VALUES", 5) else {
+        return Wanted::Wrong;
+    };
+    Wanted::Trip(Trip {
+        s: s,
+        t: t,
+        lock: Lock {
+            mask: mask,
+            values: values,
+        },
+    })
 }
 
 // Prints what the check says of a sheet.
@@ -67,7 +81,7 @@ fn check_files(plan: &[u8], trip: Trip, sheet: &[u8]) {
 
 // Does what the arguments ask. False where they are wrong.
 fn run() -> bool {
-    if !arguments::at_most(4) {
+    if !arguments::at_most(6) {
         return false;
     }
     let mut plan = io::buffer();

@@ -108,6 +108,14 @@ pub fn number_or(i: usize, name: &[u8], usual: u64) -> Number {
     Number::Is(usual)
 }
 
+// The same of an argument that belongs to argument `other`: it may be left out only where that is, and then stands for 0.
+pub fn number_with(i: usize, name: &[u8], other: usize) -> Number {
+    if given(other) {
+        return number(i, name);
+    }
+    Number::Is(0)
+}
+
 // Whether there are no more arguments than these. Where there are, standard error says so.
 pub fn at_most(most: usize) -> bool {
     // The program's own name is among the words.

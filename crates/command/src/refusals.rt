@@ -49,7 +49,12 @@ fn put_cause(room: &mut Room, gathered: Gathered, r: Refusal) -> Gathered {
         Refusal::UnmetRule => put(
             room,
             gathered,
-            b"a rule not met under the sheet's setting\n",
+            b"a rule not met under the sheet's setting, or a setting that breaks the lock\n",
+        ),
+        Refusal::WrongLock => put(
+            room,
+            gathered,
+            b"mask with a bit at or above M, or a value with a bit outside the mask\n",
         ),
     }
 }

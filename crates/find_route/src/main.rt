@@ -1,4 +1,5 @@
-// Finds a route of a depot plan: `find_route PLAN S T SHEET [PICK [ORDER [BUDGET]]]` prints the listing's line of the query,
+// Finds a route of a depot plan: `find_route PLAN S T SHEET [PICK [ORDER [BUDGET [MASK VALUES]]]]` prints the
+// listing's line of the query,
 //
 //   s t cost setting opened belts..   the cheapest permitted route, whose sheet is written to the file SHEET first,
 //   s t none opened                   that no route is permitted, or
@@ -20,6 +21,7 @@ use command::sheets;
 use command::sheets::Place;
 use command::version;
 use plan::bounds::MAX_SHEET_BYTES;
+use route::path::Lock;
 use route::path::Trip;
 use search::entry;
 use search::entry::Answer;
@@ -49,8 +51,21 @@ fn asked() -> Wanted {
     let Number::Is(budget) = arguments::number_or(7, b"BUDGET", 1000000) else {
         return Wanted::Wrong;
     };
+    let Number::Is(mask) = arguments::number_or(8, b"MASK", 0) else {
+        return Wanted::Wrong;
+    };
+    let Number::Is(values) = arguments::number_with(9, b"VALUES", 8) else {
+        return Wanted::Wrong;
+    };
     Wanted::Query(Query {
-        trip: Trip { s: s, t: t },
+        trip: Trip {
+            s: s,
+            t: t,
+            lock: Lock {
+                mask: mask,
+                values: values,
+            },
+        },
         pick: pick,
         order: order,
         budget: budget,
@@ -103,7 +118,7 @@ fn find(plan: &[u8], query: Query, sheet: &[u8]) {
 
 // Does what the arguments ask. False where they are wrong.
 fn run() -> bool {
-    if !arguments::at_most(7) {
+    if !arguments::at_most(9) {
         return false;
     }
     let mut plan = io::buffer();

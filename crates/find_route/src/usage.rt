@@ -3,7 +3,7 @@
 // Prints how the program is used.
 pub fn print() {
     output::print(
-        b"usage: find_route PLAN S T SHEET [PICK [ORDER [BUDGET]]]
+        b"usage: find_route PLAN S T SHEET [PICK [ORDER [BUDGET [MASK VALUES]]]]
 Finds the cheapest permitted route of a depot plan, and writes its sheet.
   PLAN    the file that holds the plan; - is standard input
   S       the number of the junction where the route begins, from 1
@@ -15,6 +15,9 @@ Finds the cheapest permitted route of a depot plan, and writes its sheet.
   ORDER   the child to open next: 0 the one that forbids the belt,
           1 the one that requires it; 0 if left out
   BUDGET  how many subproblems may be opened, from 1; 1000000 if left out
+  MASK    the modes that the depot sets, as the sum of 2^(m-1) for each such
+          mode m; the planner sets the others. 0, no mode, if left out
+  VALUES  those of them that are on, as such a sum; left out only with MASK
 Numbers are decimal and below 2^64. Prints one of
   s t cost setting opened belts..   a route; its sheet is written
   s t none opened                   no route is permitted

@@ -17,6 +17,7 @@ use plan::check::Verdict;
 use plan::read;
 use plan::read::BeltId;
 use plan::words::NUMBERS;
+use route::path;
 use route::path::Route;
 use route::path::Trip;
 use route::sheet;
@@ -34,6 +35,7 @@ ghost use Rattle.plan.specs.Plan.{planOf};
 ghost use Rattle.plan.specs.Reading.{Accepted};
 ghost use Rattle.plan.specs.Refusals.{refusal, numberOf};
 ghost use Rattle.route.specs.Routes.{wrongEnds};
+ghost use Rattle.route.specs.Permission.{wrongLock};
 ghost use Rattle.search.specs.Values.{Prepared};
 ghost use Rattle.listing.specs.Lines.{blank, readSheet, sheetAt, lineOf};
 
@@ -196,7 +198,8 @@ fn put_pair(
 ) -> Gathered
     requires { ⌜ ((b : List ℕ)
         × Prepared b (now words) (now numbers) (now places) (now clauses)
-        × (wrongEnds (planOf b) (trip .s) (trip .t) ≡ false)) ⌝ }
+        × (wrongEnds (planOf b) (trip .s) (trip .t) ≡ false)
+        × (wrongLock (planOf b) (trip .lock) ≡ false)) ⌝ }
 {
     let query = Query {
         trip: trip,
@@ -236,7 +239,11 @@ fn put_from(
             numbers,
             places,
             clauses,
-            Trip { s: s, t: t },
+            Trip {
+                s: s,
+                t: t,
+                lock: path::no_lock(),
+            },
         );
     }
     now

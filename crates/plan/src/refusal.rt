@@ -30,8 +30,10 @@ pub enum Refusal {
     NotARoute,
     // 13: the cost on the sheet differs from the sum.
     WrongCost,
-    // 14: a rule is not met under the sheet's setting.
+    // 14: a rule is not met under the sheet's setting, or the setting breaks the lock.
     UnmetRule,
+    // 15: the mask of the lock has a mode that is not there, or its values have a mode outside the mask.
+    WrongLock,
 }
 
 // The line's number in the table.
@@ -53,5 +55,6 @@ pub fn number(r: Refusal) -> u8
         Refusal::NotARoute => 12,
         Refusal::WrongCost => 13,
         Refusal::UnmetRule => 14,
+        Refusal::WrongLock => 15,
     }
 }

@@ -1,5 +1,5 @@
--- The claims of specs/Claims.antt hold. The one idea: no request pauses, and a refusal has a number from 1 to 10, so that each number belongs to
--- one kind of outcome.
+-- The claims of specs/Claims.antt hold. The one idea: no request pauses, and a refusal has a number from 1 to 10 or 15, so that each number
+-- belongs to one kind of outcome.
 --
 --   not-paused        no request comes to paused
 --   zero-route, hundred-none, hundred-one-spent, other-refused
@@ -24,7 +24,7 @@ use Rattle.search.specs.declared.query.Query.{Query}
 use Rattle.search.specs.Answers.{Request, searchRefusal, Outcome, refused, route, nothing, spent, paused, outcome, replyTo, outAfter}
 use Rattle.search.specs.Values.{requestOf}
 use Rattle.search.specs.Claims.{Answered, IsSpent, openedOf}
-use Rattle.search.proofs.AnswerRefusal.{apart, refused-claim, refused-numbered}
+use Rattle.search.proofs.AnswerRefusal.{apart, Numbered, refused-claim, refused-numbered}
 use Rattle.search.proofs.AnswerOutcome.{ends-claim, accepted-claim}
 use Rattle.search.proofs.AnswerReply.{outcome-by}
 use Rattle.planner.specs.declared.PlannerQuery.{PlannerQuery}
@@ -32,6 +32,10 @@ use Rattle.planner.specs.Interface.{tripOf, queryOf, callOf, toCaller}
 use Rattle.planner.specs.Claims.{IsFound, IsNone, TellsClaim, IgnoresClaim, Claims}
 
 -- ---- what a number tells
+
+between : (n : ℕ) → Numbered n → (1 ≤ n) × (n ≤ 15)
+between n (low, inl high) = (low, omega arith)
+between n (low, inr is) = (low, omega arith)
 
 module _ (k : Request) where
   not-paused : (n : ℕ) → outcome k ≡ paused n → ⊥
@@ -50,21 +54,21 @@ module _ (k : Request) where
   number o = replyTo o .number
 
   zero-route : (o : Outcome) → outcome k ≡ o → number o ≡ 0 → IsFound (outcome k)
-  zero-route (refused n) e h = let (low, high) = refused-numbered k n e in absurd (omega arith)
+  zero-route (refused n) e h = let (low, high) = between n (refused-numbered k n e) in absurd (omega arith)
   zero-route (route es c σ n) e h = (es, c, σ, n, e)
   zero-route (nothing n) e h = absurd (omega arith)
   zero-route (spent n) e h = absurd (omega arith)
   zero-route (paused n) e h = absurd (omega arith)
 
   hundred-none : (o : Outcome) → outcome k ≡ o → number o ≡ 100 → IsNone (outcome k)
-  hundred-none (refused n) e h = let (low, high) = refused-numbered k n e in absurd (omega arith)
+  hundred-none (refused n) e h = let (low, high) = between n (refused-numbered k n e) in absurd (omega arith)
   hundred-none (route es c σ n) e h = absurd (omega arith)
   hundred-none (nothing n) e h = (n, e)
   hundred-none (spent n) e h = absurd (omega arith)
   hundred-none (paused n) e h = absurd (omega arith)
 
   hundred-one-spent : (o : Outcome) → outcome k ≡ o → number o ≡ 101 → IsSpent (outcome k)
-  hundred-one-spent (refused n) e h = let (low, high) = refused-numbered k n e in absurd (omega arith)
+  hundred-one-spent (refused n) e h = let (low, high) = between n (refused-numbered k n e) in absurd (omega arith)
   hundred-one-spent (route es c σ n) e h = absurd (omega arith)
   hundred-one-spent (nothing n) e h = absurd (omega arith)
   hundred-one-spent (spent n) e h = (n, e)
@@ -77,11 +81,15 @@ module _ (k : Request) where
   other-refused n a b c (spent m) e h = absurd (c (sym h))
   other-refused n a b c (paused m) e h = absurd (not-paused m e)
 
-  among : (o : Outcome) → outcome k ≡ o → (number o ≤ 10) ⊎ ((number o ≡ 100) ⊎ (number o ≡ 101))
-  among (refused n) e = inl (refused-numbered k n e .1)
+  among : (o : Outcome) → outcome k ≡ o → (number o ≤ 10) ⊎ ((number o ≡ 15) ⊎ ((number o ≡ 100) ⊎ (number o ≡ 101)))
+  among (refused n) e = go (refused-numbered k n e .1)
+    where
+      go : (n ≤ 10) ⊎ (n ≡ 15) → (n ≤ 10) ⊎ ((n ≡ 15) ⊎ ((n ≡ 100) ⊎ (n ≡ 101)))
+      go (inl low) = inl low
+      go (inr is) = inr (inl is)
   among (route es c σ n) e = inl (omega arith)
-  among (nothing n) e = inr (inl refl)
-  among (spent n) e = inr (inr refl)
+  among (nothing n) e = inr (inr (inl refl))
+  among (spent n) e = inr (inr (inr refl))
   among (paused n) e = absurd (not-paused n e)
 
 opened : (o : Outcome) → replyTo o .opened ≡ openedOf o
@@ -145,8 +153,8 @@ tells-claim b q out =
     }
 
 pub ignores-claim : IgnoresClaim
-ignores-claim b q r s t =
-    let trips : tripOf q ≡ tripOf r = λ i. record { s = s i; t = t i } in (
+ignores-claim b q r s t mask values =
+    let trips : tripOf q ≡ tripOf r = λ i. record { s = s i; t = t i; lock = record { mask = mask i; values = values i } } in (
       λ pick order budget out.
           let queries : queryOf q ≡ queryOf r = λ i. record { trip = trips i; pick = pick i; order = order i; budget = budget i } in (
             ap (λ (x : Query). toCaller (replyTo (outcome (requestOf b x out)))) queries,

@@ -6,8 +6,8 @@
 --   Tells k out v after
 --                     what the reply v and the buffer after tell of the request k, whose out buffer was out: each sentence in its own field
 --   TellsClaim        every reply tells this, with the out buffer
---   IgnoresClaim      what is not looked at changes nothing: whatever mask, values and minute are, the reply and the out buffer are the same,
---                     and whatever is beside s and t, the answer about a sheet is
+--   IgnoresClaim      what is not looked at changes nothing: whatever minute is, the reply and the out buffer are the same, and whatever is beside
+--                     s, t, mask and values, the answer about a sheet is
 --
 -- They are about ALL lists of bytes, ALL queries and out buffers; where bytes have to be below 256, it says so (Bytes). Assumes nothing.
 use mathlib.Core.Path.{_≡_}
@@ -46,7 +46,7 @@ pub record Tells (k : Request) (out : List ℕ) (v : PlannerReply) (after : List
   -- any other number n exactly where n is that of the first broken line
   pub other : (n : ℕ) → (n ≡ 0 → ⊥) → (n ≡ 100 → ⊥) → (n ≡ 101 → ⊥) → (v .number ≡ n) ↔ FirstIn searchLines k n
   -- and there are no others: not 11 to 14, which are of sheets, and not 102
-  pub among : (v .number ≤ 10) ⊎ ((v .number ≡ 100) ⊎ (v .number ≡ 101))
+  pub among : (v .number ≤ 10) ⊎ ((v .number ≡ 15) ⊎ ((v .number ≡ 100) ⊎ (v .number ≡ 101)))
   -- the count is that of the outcome, and 0 on a refusal; no tests are counted
   pub opened : v .opened ≡ openedOf (outcome k)
   pub refused : (n : ℕ) → FirstIn searchLines k n → v .opened ≡ 0
@@ -54,7 +54,7 @@ pub record Tells (k : Request) (out : List ℕ) (v : PlannerReply) (after : List
   -- on a route the length is that of its sheet, which stands at the start of the buffer; behind it no byte differs
   pub sheet : (es : List ℕ) (c σ n : ℕ) → outcome k ≡ route es c σ n
       → (v .length ≡ length (sheetOf es c σ)) × (take (v .length) after ≡ sheetOf es c σ) × (drop (v .length) after ≡ drop (v .length) out)
-  -- and the check of sheets answers 0 to it, with the same plan, s and t
+  -- and the check of sheets answers 0 to it, with the same plan, s, t and lock
   pub accepted : Bytes (k .plan) → v .number ≡ 0 → sheetRefusal (caseOf (k .plan) (k .query .trip) (take (v .length) after)) ≡ 0
   -- with any number but 0 the length is 0, and every byte of the buffer is as it was
   pub unchanged : (v .number ≡ 0 → ⊥) → (v .length ≡ 0) × (after ≡ out)
@@ -63,7 +63,7 @@ abbrev pub TellsClaim : Type 0
 TellsClaim = (b : List ℕ) (q : PlannerQuery) (out : List ℕ) → Tells (callOf b q out) out (replyIn b q out) (outIn b q out)
 
 abbrev pub IgnoresClaim : Type 0
-IgnoresClaim = (b : List ℕ) (q r : PlannerQuery) → q .s ≡ r .s → q .t ≡ r .t
+IgnoresClaim = (b : List ℕ) (q r : PlannerQuery) → q .s ≡ r .s → q .t ≡ r .t → q .mask ≡ r .mask → q .values ≡ r .values
     → (q .pick ≡ r .pick → q .order ≡ r .order → q .budget ≡ r .budget
     → (out : List ℕ) → (replyIn b q out ≡ replyIn b r out) × (outIn b q out ≡ outIn b r out))
     × ((h : List ℕ) → sheetRefusal (caseOf b (tripOf q) h) ≡ sheetRefusal (caseOf b (tripOf r) h))

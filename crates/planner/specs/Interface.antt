@@ -1,8 +1,8 @@
 -- What the C interface answers. It speaks of the same outcomes as the crates below it: `refusal` of plans, `sheetRefusal` of sheets, `outcome`
 -- of requests. Here a caller's query becomes one of them, and their numbers the caller's reply.
 --
---   tripOf q            the trip that a caller's query asks for: s and t, whatever the rest of it says
---   queryOf q           the query that it is. mask, values and minute are for later: nothing here looks at them
+--   tripOf q            the trip that a caller's query asks for: s, t and the lock, whatever the rest of it says
+--   queryOf q           the query that it is. minute is for later: nothing here looks at it
 --   callOf b q out      the request of a call
 --   toCaller v          the reply that hands the numbers v out. tests is for later: it is 0
 --
@@ -18,7 +18,7 @@ use Rattle.planner.specs.declared.PlannerQuery.{PlannerQuery}
 use Rattle.planner.specs.declared.PlannerReply.{PlannerReply}
 
 abbrev pub tripOf : PlannerQuery → Trip
-tripOf q = record { s = q .s; t = q .t }
+tripOf q = record { s = q .s; t = q .t; lock = record { mask = q .mask; values = q .values } }
 
 abbrev pub queryOf : PlannerQuery → Query
 queryOf q = record { trip = tripOf q; pick = q .pick; order = q .order; budget = q .budget }

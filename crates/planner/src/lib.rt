@@ -1,6 +1,7 @@
 // The C interface, declared in include/planner.h: the check of a plan, the search, and the check of a sheet. A slice is lent as a pointer and a
 // length; a query and a reply are handed over by value. What they answer and write is what the crates below say; no function asks anything of its
 // caller.
+use route::path::Lock;
 use route::path::Trip;
 use search::entry;
 use search::query::Query;
@@ -11,7 +12,8 @@ ghost use Rattle.route.specs.Values.{caseOf};
 ghost use Rattle.search.specs.Answers.{outcome, replyTo, outAfter};
 ghost use Rattle.planner.specs.Interface.{tripOf, callOf, toCaller};
 
-// A query of a caller. No function looks at mask, values and minute yet: they are for later, and a caller sets them to 0.
+// A query of a caller. Bit m-1 of mask locks mode m, and that of values says that it is locked on. No function looks at minute yet: it is for later,
+// and a caller sets it to 0.
 #[repr(C)]
 pub struct PlannerQuery {
     pub s: u64,
@@ -42,6 +44,20 @@ pub extern "C" fn planner_check_plan(p: &[u8]) -> u64
     plan::check::number(plan::check::check(p)) as u64
 }
 
+// The trip that a query asks for, or a sheet is checked for: s, t and the lock.
+fn trip_of(query: PlannerQuery) -> Trip
+    ensures { λ v. ⌜ v ≡ tripOf query ⌝ }
+{
+    Trip {
+        s: query.s,
+        t: query.t,
+        lock: Lock {
+            mask: query.mask,
+            values: query.values,
+        },
+    }
+}
+
 // Answers a query. On a route its sheet is written to the start of `out`; else no byte of it changes.
 #[no_mangle]
 pub extern "C" fn planner_search(p: &[u8], query: PlannerQuery, out: &mut [u8]) -> PlannerReply
@@ -49,10 +65,7 @@ pub extern "C" fn planner_search(p: &[u8], query: PlannerQuery, out: &mut [u8]) 
         × (now (out .exit) ≡ outAfter (outcome (callOf (now (p .entry)) query (now (out .entry)))) (now (out .entry))) ⌝ }
 {
     let asked = Query {
-        trip: Trip {
-            s: query.s,
-            t: query.t,
-        },
+        trip: trip_of(query),
         pick: query.pick,
         order: query.order,
         budget: query.budget,
@@ -66,13 +79,10 @@ pub extern "C" fn planner_search(p: &[u8], query: PlannerQuery, out: &mut [u8]) 
     }
 }
 
-// Checks a sheet against a plan: 0, or the number of the first broken line. Of the query it looks at s and t alone.
+// Checks a sheet against a plan: 0, or the number of the first broken line. Of the query it looks at s, t, mask and values alone.
 #[no_mangle]
 pub extern "C" fn planner_check_sheet(p: &[u8], query: PlannerQuery, sheet: &[u8]) -> u64
     ensures { λ v. ⌜ v ≡ sheetRefusal (caseOf (now (p .entry)) (tripOf query) (now (sheet .entry))) ⌝ }
 {
-    let s = query.s;
-    let t = query.t;
-    let trip = Trip { s: s, t: t };
-    route::check::number(route::check::check(p, trip, sheet)) as u64
+    route::check::number(route::check::check(p, trip_of(query), sheet)) as u64
 }

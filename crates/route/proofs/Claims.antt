@@ -9,6 +9,7 @@ use Rattle.route.proofs.SubproblemFirst.{relaxed-claim}
 use Rattle.route.proofs.SubproblemCut.{cut-claim}
 use Rattle.route.proofs.SubproblemEnforced.{enforced-claim}
 use Rattle.route.proofs.RulesLowest.{lowest-claim}
+use Rattle.route.proofs.RulesLock.{unlocked-claim}
 use Rattle.route.proofs.RulesNamed.{mask-claim}
 use Rattle.route.proofs.SheetReading.{round-trip, one-reading, reading-claim}
 use Rattle.route.proofs.SheetLines.{instance-claim, first-refusal}
@@ -23,6 +24,7 @@ claims = record {
   paths = paths-claim;
   cost = cost-weight;
   lowest = lowest-claim;
+  unlocked = unlocked-claim;
   mask = mask-claim;
   order = order-claim;
   upward = upward-claim;

@@ -7,11 +7,12 @@
 --   holds-right, right-holds    a literal of a rule holds exactly where it is right
 --   joint-assigns, joint-complete, joint-agrees
 --                               the joint assignment is an assignment over the variables, complete, and agrees with the path of r
---   met-satisfied               where every rule is met, the joint assignment satisfies the formula
---   right-met                   where right literals satisfy the formula, every rule is met
---   met-claim                   so every rule is met exactly where the joint assignment satisfies the formula
+--   met-satisfied               where the setting works, the joint assignment satisfies the formula: each clause has a right literal, that of a rule
+--                               one that holds, that of a locked mode its only one
+--   right-met                   where right literals satisfy the formula, the setting works
+--   met-claim                   so it works exactly where the joint assignment satisfies the formula
 --   joint-feasible, feasible-joint
---                               so a route that meets every rule under σ is a feasible path by the joint assignment, and back
+--                               so a route for which σ works is a feasible path by the joint assignment, and back
 --   all-right                   the literals by which a path is feasible, whatever they are, are right under a setting with their modes on
 --   permitted-claim             so a route is permitted exactly where its path is feasible
 --   paths-claim                 and every feasible path is that of a permitted route
@@ -21,22 +22,23 @@ use mathlib.Core.Path.{_≡_, refl, sym, _∙_, ap, subst}
 use mathlib.Core.Logic.{_⊎_, inl, inr}
 use mathlib.Core.Bool.{Bool, true, false, not, _||_, Bool·beq, true≢false}
 use Prim.Native.Nat.{ℕ, suc, _≤_}
-use mathlib.Core.List.{List, [], _∷_, map, List·Memᴰ, List·Memᴰ·append-cases, Memᴰ·append-left, Memᴰ·append-right, Memᴰ·cast}
+use mathlib.Core.List.{List, [], _∷_, map, List·Memᴰ, List·Memᴰ·head, List·Memᴰ·eq-of-singleton, List·Memᴰ·append-cases, Memᴰ·append-left, Memᴰ·append-right, Memᴰ·cast}
 use native.Mathlib.Omega.{arith}
 use lib.Dec.{eqb}
 use Rattle.plan.specs.declared.read.Literal.{Literal}
 use Rattle.plan.specs.declared.read.Literal.the-variants.{OfBelt, OfMode}
 use Rattle.plan.specs.Plan.{Belt, Plan, planOf}
 use Rattle.plan.specs.Reading.{Accepted}
-use Rattle.plan.proofs.Lists.{test, beq-true, beq-refl, all-in, all-is, in-any, any-some, in-map, map-in, upto-in}
+use Rattle.plan.proofs.Lists.{test, both, and-is, beq-true, beq-refl, all-in, all-is, in-any, any-some, in-map, map-in, upto-in}
 use Rattle.route.specs.Lcsp.{Var, graph, free, Lit, ¬ₗ, Clause, Formula, _∈?_, Consistent, IsAssignment, AssignedTrue, AssignedFalse, IsComplete, Satisfies, Arc, arcVar, variables, onPath, induced, Agree, FeasibleBy, Feasible}
 use Rattle.route.specs.Routes.{IsRoute}
 use Rattle.route.specs.declared.path.Trip.{Trip}
-use Rattle.route.specs.Permission.{passes, isOn, holds, met, termsOf, works, Permitted, IsPermitted}
-use Rattle.route.specs.Instances.{arcOf, litOf, modesOf, instanceOf, settled, joint}
+use Rattle.route.specs.Permission.{passes, isOn, holds, met, allMet, modesOf, agrees, termsOf, works, Permitted, IsPermitted}
+use Rattle.route.specs.Instances.{arcOf, litOf, lockLit, unitOf, instanceOf, settled, joint}
 use Rattle.route.specs.Claims.{MetClaim, PermittedClaim, PathsClaim}
 use Rattle.route.proofs.LcspCondition.{in-set, not-in, Hit, satisfied-hit, hit-satisfied}
-use Rattle.route.proofs.LcspInstance.{arcs-belts, route-path, path-route, arc-var, mode-var, names-variable}
+use Rattle.route.proofs.LcspInstance.{arcs-belts, route-path, path-route, arc-var, mode-var, names-variable, IsClause, clause-is, rule-clause, unit-clause}
+use Rattle.route.proofs.RulesLock.{agrees-at, at-agrees}
 use Rattle.route.proofs.MaskBits.{setting}
 
 -- ---- values
@@ -172,13 +174,21 @@ module _ (p : Plan) (trip : Trip) where
 
 right-met : (p : Plan) (trip : Trip) (r : List Belt) (σ : ℕ) (T : List Lit) → AllRight r σ T → Satisfies T (Rules p trip)
     → works (termsOf p trip) (passes r) σ ≡ true
-right-met p trip r σ T right h = all-is (met (passes r) σ) (p .rules) one
+right-met p trip r σ T right h =
+    and-is (agrees (p .modes) (trip .lock) σ) (allMet (p .rules) (passes r) σ)
+    (at-agrees (trip .lock) σ (p .modes) lock)
+    (all-is (met (passes r) σ) (p .rules) one)
   where
     one : (rule : List Literal) → List·Memᴰ rule (p .rules) → met (passes r) σ rule ≡ true
     one rule m =
-        let (l, k, j) = satisfied-hit T (Rules p trip) h (map litOf rule) (in-map (map litOf) m) in
+        let (l, k, j) = satisfied-hit T (Rules p trip) h (map litOf rule) (rule-clause p trip rule m) in
         let (x, i, q) = map-in litOf rule k in
         in-any (holds (passes r) σ) rule i (right-holds r σ x (subst (Right r σ) q (right l j)))
+
+    lock : (n : ℕ) → List·Memᴰ n (modesOf (p .modes)) → isOn (trip .lock .mask) n ≡ true → isOn σ n ≡ isOn (trip .lock .values) n
+    lock n m t =
+        let (l, k, j) = satisfied-hit T (Rules p trip) h (unitOf (trip .lock) n) (unit-clause p trip n m t) in
+        sym (subst (Right r σ) (List·Memᴰ·eq-of-singleton k) (right l j))
 
 module _ {b : List ℕ} (ok : Accepted b) (trip : Trip) where
   met-satisfied : (r : List Belt) (σ : ℕ) → works (termsOf (planOf b) trip) (passes r) σ ≡ true
@@ -186,13 +196,24 @@ module _ {b : List ℕ} (ok : Accepted b) (trip : Trip) where
   met-satisfied r σ h = hit-satisfied (Joint (planOf b) trip r σ) (Rules (planOf b) trip) (joint-consistent (planOf b) trip r σ) one
     where
       one : (α : Clause) → List·Memᴰ α (Rules (planOf b) trip) → Hit (Joint (planOf b) trip r σ) α
-      one α m =
-          let (rule, k, q) = map-in (map litOf) (planOf b .rules) m in
-          let (l, j, e) = any-some (holds (passes r) σ) rule (all-in (met (passes r) σ) (planOf b .rules) h k) in (
-            litOf l,
-            subst (List·Memᴰ (litOf l)) (sym q) (in-map litOf j),
-            in-joint (planOf b) trip r σ (litOf l) (names-variable ok trip rule k l j) (holds-right r σ l e),
-          )
+      one α m = go (clause-is (planOf b) trip α m)
+        where
+          parts : (agrees (planOf b .modes) (trip .lock) σ ≡ true) × (allMet (planOf b .rules) (passes r) σ ≡ true)
+          parts = both (agrees (planOf b .modes) (trip .lock) σ) (allMet (planOf b .rules) (passes r) σ) h
+
+          go : IsClause (planOf b) trip α → Hit (Joint (planOf b) trip r σ) α
+          go (inl (rule, k, q)) =
+              let (l, j, e) = any-some (holds (passes r) σ) rule (all-in (met (passes r) σ) (planOf b .rules) (parts .1) k) in (
+                litOf l,
+                subst (List·Memᴰ (litOf l)) (sym q) (in-map litOf j),
+                in-joint (planOf b) trip r σ (litOf l) (names-variable ok trip rule k l j) (holds-right r σ l e),
+              )
+          go (inr (n, k, t, q)) =
+              let e = agrees-at (trip .lock) σ (planOf b .modes) (parts .0) n k t in (
+                lockLit (trip .lock) n,
+                subst (List·Memᴰ (lockLit (trip .lock) n)) (sym q) (List·Memᴰ·head refl),
+                in-joint (planOf b) trip r σ (lockLit (trip .lock) n) (mode-var (planOf b) trip n k) (sym e),
+              )
 
 pub met-claim : MetClaim
 met-claim b ok trip r σ =

@@ -1,7 +1,7 @@
 -- An accepted plan is an instance of the published problem (specs/Lcsp.antt, specs/Instances.antt).
 --
---   instance-is     its belts join junctions, no path of them comes back, no two are of one number, and its rules name only its own
---                   belts and modes
+--   instance-is     its belts join junctions, no path of them comes back, no two are of one number, and its rules and the lock name only its
+--                   own belts and modes
 --   cost-weight     the cost of a route is the weight of its path
 --   route-path      a route's belts are a path
 --   path-route      belts whose arcs are a path are a route
@@ -9,22 +9,26 @@
 --   arc-var, mode-var
 --                   arcs and modes are variables of the instance
 --   names-variable  and so is what a literal of a rule names
+--   clause-is       a clause of the instance is that of a rule, or that of a locked mode (IsClause); rule-clause, unit-clause: and back
 --
 -- Assumes nothing.
 use mathlib.Core.Path.{_≡_, refl, sym, _∙_, ap, subst}
+use mathlib.Core.Logic.{_⊎_, inl, inr}
+use mathlib.Core.Bool.{true}
 use Prim.Native.Nat.{ℕ, suc, _+_, _≤_, _<_}
-use mathlib.Core.List.{List, [], _∷_, map, List·Memᴰ, map-map, map-id, Memᴰ·append-left, Memᴰ·append-right, Memᴰ·cast}
+use mathlib.Core.List.{List, [], _∷_, map, List·Memᴰ, List·Memᴰ·eq-of-singleton, List·Memᴰ·append-cases, map-map, map-id, Memᴰ·append-left, Memᴰ·append-right, Memᴰ·cast}
 use native.Mathlib.Omega.{arith}
 use Rattle.plan.specs.declared.read.Literal.{Literal}
 use Rattle.plan.specs.declared.read.Literal.the-variants.{OfBelt, OfMode}
 use Rattle.plan.specs.Plan.{Belt, Plan, planOf, beltAt}
 use Rattle.plan.specs.Reading.{Accepted}
-use Rattle.plan.proofs.Lists.{in-map, map-in, in-upto}
+use Rattle.plan.proofs.Lists.{in-keep, keep-in, in-map, map-in, in-upto}
 use Rattle.plan.proofs.Reading.{belt-in, belt-index, belt-ends, literal-belt, literal-mode}
 use Rattle.route.specs.Lcsp.{free, Lit, Clause, Arc, arcVar, variables, IsPath, IsInstance}
 use Rattle.route.specs.declared.path.Trip.{Trip}
 use Rattle.route.specs.Routes.{IsRoute, cost}
-use Rattle.route.specs.Instances.{arcOf, litOf, modesOf, instanceOf}
+use Rattle.route.specs.Permission.{isOn, modesOf}
+use Rattle.route.specs.Instances.{arcOf, litOf, lockLit, unitOf, lockedOf, instanceOf}
 use Rattle.route.specs.Claims.{CostClaim}
 
 -- ---- paths and routes
@@ -51,7 +55,7 @@ module _ (p : Plan) (t : ℕ) where
       let (x, m, q) = map-in arcOf (p .belts) (h .0) in
       (Memᴰ·cast (ap beltOf q) m, h .1, path-route (e .leads) r (h .2))
 
--- ---- variables of the instance
+-- ---- variables and clauses of the instance
 
 module _ (p : Plan) (trip : Trip) where
   pub arc-var : (a : Arc) → List·Memᴰ a (map arcOf (p .belts)) → List·Memᴰ (arcVar a) (variables (instanceOf p trip))
@@ -59,6 +63,32 @@ module _ (p : Plan) (trip : Trip) where
 
   pub mode-var : (n : ℕ) → List·Memᴰ n (modesOf (p .modes)) → List·Memᴰ (free n) (variables (instanceOf p trip))
   mode-var n m = Memᴰ·append-right (map arcVar (map arcOf (p .belts))) (in-map free m)
+
+  -- ---- clauses of the instance
+
+  -- a clause is that of a rule, or that of a locked mode
+  abbrev pub IsClause : Clause → Type 0
+  IsClause α =
+      ((rule : List Literal) × List·Memᴰ rule (p .rules) × (α ≡ map litOf rule))
+      ⊎ ((n : ℕ) × List·Memᴰ n (modesOf (p .modes)) × (isOn (trip .lock .mask) n ≡ true) × (α ≡ unitOf (trip .lock) n))
+
+  pub clause-is : (α : Clause) → List·Memᴰ α (instanceOf p trip .formula) → IsClause α
+  clause-is α m = go (List·Memᴰ·append-cases (map (map litOf) (p .rules)) m)
+    where
+      go : List·Memᴰ α (map (map litOf) (p .rules)) ⊎ List·Memᴰ α (map (unitOf (trip .lock)) (lockedOf (p .modes) (trip .lock))) → IsClause α
+      go (inl k) = inl (map-in (map litOf) (p .rules) k)
+      go (inr k) =
+          let (n, i, q) = map-in (unitOf (trip .lock)) (lockedOf (p .modes) (trip .lock)) k in
+          let (j, t) = keep-in (isOn (trip .lock .mask)) (modesOf (p .modes)) i in
+          inr (n, j, t, q)
+
+  pub rule-clause : (rule : List Literal) → List·Memᴰ rule (p .rules) → List·Memᴰ (map litOf rule) (instanceOf p trip .formula)
+  rule-clause rule m = Memᴰ·append-left (map (unitOf (trip .lock)) (lockedOf (p .modes) (trip .lock))) (in-map (map litOf) m)
+
+  pub unit-clause : (n : ℕ) → List·Memᴰ n (modesOf (p .modes)) → isOn (trip .lock .mask) n ≡ true
+      → List·Memᴰ (unitOf (trip .lock) n) (instanceOf p trip .formula)
+  unit-clause n m t =
+      Memᴰ·append-right (map (map litOf) (p .rules)) (in-map (unitOf (trip .lock)) (in-keep (isOn (trip .lock .mask)) (modesOf (p .modes)) m t))
 
 module _ {b : List ℕ} (ok : Accepted b) (trip : Trip) where
   pub names-variable : (rule : List Literal) → List·Memᴰ rule (planOf b .rules) → (x : Literal) → List·Memᴰ x rule
@@ -102,10 +132,15 @@ module _ {b : List ℕ} (ok : Accepted b) where
 
   over : (trip : Trip) (α : Clause) → List·Memᴰ α (instanceOf (planOf b) trip .formula) → (l : Lit) → List·Memᴰ l α
       → List·Memᴰ (l .var) (variables (instanceOf (planOf b) trip))
-  over trip α m l k =
-      let (rule, n, q) = map-in (map litOf) (planOf b .rules) m in
-      let (x, i, e) = map-in litOf rule (subst (List·Memᴰ l) q k) in
-      subst (λ (y : Lit). List·Memᴰ (y .var) (variables (instanceOf (planOf b) trip))) (sym e) (names-variable ok trip rule n x i)
+  over trip α m l k = go (clause-is (planOf b) trip α m)
+    where
+      go : IsClause (planOf b) trip α → List·Memᴰ (l .var) (variables (instanceOf (planOf b) trip))
+      go (inl (rule, n, q)) =
+          let (x, i, e) = map-in litOf rule (subst (List·Memᴰ l) q k) in
+          subst (λ (y : Lit). List·Memᴰ (y .var) (variables (instanceOf (planOf b) trip))) (sym e) (names-variable ok trip rule n x i)
+      go (inr (n, i, t, q)) =
+          let e : l ≡ lockLit (trip .lock) n = List·Memᴰ·eq-of-singleton (subst (List·Memᴰ l) q k) in
+          subst (λ (y : Lit). List·Memᴰ (y .var) (variables (instanceOf (planOf b) trip))) (sym e) (mode-var (planOf b) trip n i)
 
   pub instance-is : (trip : Trip) → 1 ≤ trip .s → trip .s ≤ planOf b .junctions → 1 ≤ trip .t → trip .t ≤ planOf b .junctions
       → IsInstance (instanceOf (planOf b) trip)

@@ -30,8 +30,10 @@ pub mod WalkAnswer
 pub mod RulesLowest
 pub mod RouteBelts
 pub mod RulesCodes
+pub mod RulesLock
 pub mod RulesNamed
 pub mod RulesScan
+pub mod RulesSettle
 pub mod RulesEntries
 pub mod SheetReading
 pub mod SheetWriting

@@ -1,29 +1,33 @@
 -- Numbers by their bits: settings of modes, and masks.
 --
---   isSet n k      bit k of n is 1
+--   isSet n k      bit k of n is 1; half-set: bit k + 1 of a number is bit k of its half
 --   power-set      of 2^i only bit i is 1
 --   or-set         the bits of either of two numbers; or-power: setting bit i sets it and leaves the others
 --   and-set        the bits that two numbers have in common
 --   without-set    the bits of a number that another does not have
+--   xor-set        the bits in which two numbers differ
 --   ones-set       the first w bits of 2^w - 1 are all 1
 --   lowest-none, lowest-set
 --                  the trailing zeros of a number: below so many none is 1, and the next is; lowest-low: a number of m bits that is not 0 has
 --                  fewer of them than bits
 --   bits-equal     numbers of n bits with the same bits are equal
+--   zero-set       no bit of 0 is 1
+--   over-set       from place n on no bit of a number of n bits is 1; set-over: where that is so of a number, it is one of n bits
+--   low-self       a number n has at most n bits
 --   shifted        w bits do not cut the bit of a lower place
 --   low-bits, high-bits
 --                  a number above the n low bits of another: the bits of the one below place n, and those of the other from there on
 --   setting        for any choice of modes among 1 to M there is a setting below 2^M in which exactly the chosen ones are on
 --
--- Everything goes bit by bit: bit j + 1 of a number is bit j of its half (half-set). Assumes nothing.
-use mathlib.Core.Path.{_≡_, refl, sym, _∙_, ap}
+-- Everything goes bit by bit. Assumes nothing.
+use mathlib.Core.Path.{_≡_, refl, sym, _∙_, ap, subst}
 use mathlib.Core.Logic.{_⊎_, inl, inr}
-use mathlib.Core.Bool.{Bool, true, false, not, _&&_, _||_}
+use mathlib.Core.Bool.{Bool, true, false, not, _&&_, _||_, Bool·beq}
 use Prim.Native.Nat.{ℕ, zero, suc, _+_, _-_, _*_, _/_, _%_, _^_, _≤_, _<_}
 use native.Mathlib.Omega.{arith}
-use native.Mathlib.Nat.{zero-div, one-mul, mul-assoc, div-eq-of-lt, add-mul-div-right, add-mul-mod-self-right, two-pow-succ}
+use native.Mathlib.Nat.{div-lt-iff-lt-mul, zero-div, one-mul, mul-assoc, div-eq-of-lt, add-mul-div-right, add-mul-mod-self-right, two-pow-succ}
 use native.Mathlib.Numerals.{one-add, sub-one}
-use lib.Pow.{pow-pos, pow-add, shl-exact, shr-shr}
+use lib.Pow.{pow-pos, pow-mono, pow-add, shl-exact, shr-shr}
 use lib.Bits.{bitAnd, bitOr, bitXor, and-shr, and-mod, or-shr, or-mod, xor-shr, xor-mod}
 use lib.Count.{under, trailingZeros}
 use lib.Dec.{eqb, ltb, lit<, eqb·zero-suc, eqb·suc-zero, eqb·suc-suc}
@@ -34,7 +38,7 @@ use Rattle.route.specs.Permission.{isOn}
 abbrev isSet : ℕ → ℕ → Bool
 isSet n k = eqb (n / 2 ^ k % 2) 1
 
-half-set : (n j : ℕ) → isSet n (suc j) ≡ isSet (n / 2) j
+pub half-set : (n j : ℕ) → isSet n (suc j) ≡ isSet (n / 2) j
 half-set n j = ap (λ (m : ℕ). eqb (m % 2) 1) (ap (λ (k : ℕ). n / 2 ^ k) (sym (one-add j)) ∙ sym (shr-shr n 1 j))
 
 -- ---- setting a bit
@@ -124,6 +128,22 @@ without-set n m j =
     ap (λ (x : ℕ). eqb x 1) (split ∙ ap (λ (x : ℕ). bitXor x (m / 2 ^ j % 2)) (or-at n m j))
     ∙ without-one (n / 2 ^ j % 2) (m / 2 ^ j % 2) (omega arith) (omega arith)
 
+-- ---- bits that differ
+
+xor-one : (x y : ℕ) → x < 2 → y < 2 → eqb (bitXor x y) 1 ≡ not (Bool·beq (eqb x 1) (eqb y 1))
+xor-one zero zero h k = refl
+xor-one zero (suc zero) h k = refl
+xor-one zero (suc (suc y)) h k = absurd (omega arith)
+xor-one (suc zero) zero h k = refl
+xor-one (suc zero) (suc zero) h k = refl
+xor-one (suc zero) (suc (suc y)) h k = absurd (omega arith)
+xor-one (suc (suc x)) y h k = absurd (omega arith)
+
+pub xor-set : (a c j : ℕ) → isSet (bitXor a c) j ≡ not (Bool·beq (isSet a j) (isSet c j))
+xor-set a c j =
+    ap (λ (m : ℕ). eqb m 1) (ap (λ (m : ℕ). m % 2) (xor-shr a c j) ∙ xor-mod (a / 2 ^ j) (c / 2 ^ j) 1)
+    ∙ xor-one (a / 2 ^ j % 2) (c / 2 ^ j % 2) (omega arith) (omega arith)
+
 -- ---- the lowest bit that is set
 
 pub ones-set : (w j : ℕ) → j < w → isSet (2 ^ w - 1) j ≡ true
@@ -194,7 +214,7 @@ bits-equal (suc n) a c h k same =
     bit-back (a / 2 ^ 0 % 2) (omega arith) ∙ ap bit (same 0 (omega arith)) ∙ sym (bit-back (c / 2 ^ 0 % 2) (omega arith)) in
     omega arith
 
-zero-set : (j : ℕ) → isSet 0 j ≡ false
+pub zero-set : (j : ℕ) → isSet 0 j ≡ false
 zero-set j = ap (λ (n : ℕ). eqb (n % 2) 1) (zero-div (2 ^ j))
 
 pub lowest-low : (w n m : ℕ) → n < 2 ^ m → (n ≡ 0 → ⊥) → trailingZeros w n < m
@@ -205,6 +225,27 @@ lowest-low w n m h some = go (test (ltb (trailingZeros w n) m))
     go (inr t) =
         let far = ltb-false (trailingZeros w n) m t in
         absurd (some (bits-equal m n 0 h (pow-pos m) (λ j l. lowest-none w n j (omega arith) ∙ sym (zero-set j))))
+
+-- ---- how many bits a number has
+
+pub low-self : (n : ℕ) → n < 2 ^ n
+low-self zero = omega arith
+low-self (suc n) = omega (arith, low-self n, two-pow-succ n)
+
+pub over-set : (n a j : ℕ) → a < 2 ^ n → n ≤ j → isSet a j ≡ false
+over-set n a j h l =
+    let past : a / 2 ^ j ≡ 0 = div-eq-of-lt (omega (arith, pow-mono {i = n} {j = j} l)) in
+    ap (λ (m : ℕ). eqb (m % 2) 1) past
+
+-- what is left of the number behind its n low bits has no bit, so it is 0
+pub set-over : (n a : ℕ) → ((j : ℕ) → n ≤ j → isSet a j ≡ false) → a < 2 ^ n
+set-over n a h =
+    let rest = a / 2 ^ n in
+    let none : rest ≡ 0 =
+    bits-equal rest rest 0 (low-self rest) (pow-pos rest) (λ k l.
+    ap (λ (m : ℕ). eqb (m % 2) 1) (shr-shr a n k) ∙ h (n + k) (omega arith) ∙ sym (zero-set k)) in
+    let low : rest < 1 = omega (arith, none) in
+    subst (λ (m : ℕ). a < m) (one-mul (2 ^ n)) (div-lt-iff-lt-mul (pow-pos n) .0 low)
 
 -- ---- settings
 

@@ -6,8 +6,7 @@
 --   find-cong         two tests that agree on the elements of a list find the same in it
 --   halves, weight, all-modes
 --                     2^(m-1) is half of 2^m, and fits into 16 bits; 2^m is at most 2^maxModes
---   settle-none       without modes the one setting is tested
---   settle-both       else the settings with the highest mode off come first, then those with it on
+--   settle-both       of the settings of the modes up to m those with mode m off come first, then those with it on
 --   lowest-claim      THE CLAIM: `lowest` is the lowest setting that works; there is none exactly when the route is not permitted
 --
 -- Assumes nothing.
@@ -49,7 +48,7 @@ all-modes m h = pow-mono {i = m} {j = maxModes} h
 module _ (f : ℕ → Bool) where
   -- ---- the first of a run
 
-  abbrev First : ℕ → ℕ → Option ℕ → Type 0
+  abbrev pub First : ℕ → ℕ → Option ℕ → Type 0
   First i n none = (τ : ℕ) → i ≤ τ → τ < i + n → f τ ≡ false
   First i n (some σ) = (i ≤ σ) × (σ < i + n) × (f σ ≡ true) × ((τ : ℕ) → i ≤ τ → τ < σ → f τ ≡ false)
 
@@ -88,7 +87,7 @@ module _ (f : ℕ → Bool) where
   find-is : (i n σ : ℕ) → First i n (some σ) → find f (iota i n) ≡ some σ
   find-is i n σ h = first-one i n σ h (find f (iota i n)) (find-iota i n)
 
-  find-none : (i n : ℕ) → First i n none → find f (iota i n) ≡ none
+  pub find-none : (i n : ℕ) → First i n none → find f (iota i n) ≡ none
   find-none i n h = go (find f (iota i n)) (find-iota i n)
     where
       go : (o : Option ℕ) → First i n o → o ≡ none
@@ -110,9 +109,6 @@ module _ (f : ℕ → Bool) where
   find-iota-split s n m = ap (find f) (iota-split s n m) ∙ find-append (iota s n) (iota (s + n) m)
 
   -- ---- the settings of the modes up to m, the higher ones being as s has them
-
-  pub settle-none : (m s : ℕ) → m ≡ 0 → (b : Bool) → f s ≡ b → find f (iota s (2 ^ m)) ≡ orElse b s none
-  settle-none m s e b h = ap (λ (n : ℕ). find f (iota s (2 ^ n))) e ∙ ap (λ (t : Bool). orElse t s none) h
 
   pub settle-both : (m s : ℕ) → 1 ≤ m
       → find f (iota s (2 ^ m)) ≡ otherwise (find f (iota s (2 ^ (m - 1)))) (find f (iota (s + 2 ^ (m - 1)) (2 ^ (m - 1))))

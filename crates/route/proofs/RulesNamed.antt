@@ -25,8 +25,9 @@ use Rattle.plan.proofs.Lists.{any-cong, all-cong, map-in}
 use Rattle.plan.proofs.NamedBelts.{indices-back, named-rises}
 use Rattle.plan.proofs.Reading.{belt-of, belt-low}
 use Rattle.route.specs.declared.path.Route.{Route}
+use Rattle.route.specs.declared.path.Trip.{Trip}
 use Rattle.route.specs.Routes.{beltsByIndex}
-use Rattle.route.specs.Permission.{passes, holds, met, allMet, Terms, planTerms, termsOf, works, lowest}
+use Rattle.route.specs.Permission.{passes, holds, met, allMet, Terms, termsOf, works, lowest}
 use Rattle.route.specs.Values.{idsOf, Known, routeIn, LowPlace, namedPlaces, Placeable, maskOf, hasBelt}
 use Rattle.route.specs.Claims.{MaskClaim}
 use Rattle.route.proofs.RulesLowest.{find-cong}
@@ -87,8 +88,9 @@ module _ {b : List ℕ} (ok : Accepted b) where
       → allMet (planOf b .rules) (hasBelt b (maskOf b (idsOf r))) σ ≡ allMet (planOf b .rules) (passes (routeIn b r)) σ
   met-mask r k σ = met-cong (planOf b .rules) (hasBelt b (maskOf b (idsOf r))) (passes (routeIn b r)) (mask-agrees r k) σ
 
-  pub lowest-mask : (r : Route) → Known b r → lowest (planTerms (planOf b)) (hasBelt b (maskOf b (idsOf r))) ≡ lowest (planTerms (planOf b)) (passes (routeIn b r))
-  lowest-mask r k = lowest-cong (planTerms (planOf b)) (hasBelt b (maskOf b (idsOf r))) (passes (routeIn b r)) (mask-agrees r k)
+  pub lowest-mask : (trip : Trip) (r : Route) → Known b r
+      → lowest (termsOf (planOf b) trip) (hasBelt b (maskOf b (idsOf r))) ≡ lowest (termsOf (planOf b) trip) (passes (routeIn b r))
+  lowest-mask trip r k = lowest-cong (termsOf (planOf b) trip) (hasBelt b (maskOf b (idsOf r))) (passes (routeIn b r)) (mask-agrees r k)
 
 pub mask-claim : MaskClaim
 mask-claim b ok trip r h = lowest-cong (termsOf (planOf b) trip) (hasBelt b (maskOf b (indicesOf r))) (passes r) (λ rule m e w i.

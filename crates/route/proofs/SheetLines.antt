@@ -1,10 +1,14 @@
--- The first broken line of the sheet check: lines of plans first, then that of trips, then those of sheets.
+-- The first broken line of the sheet check: lines of plans first, then those of trips, then those of sheets.
 --
---   trip-accepted, trip-ends, ends-trip
---                      the lines of plan and trip are unbroken exactly where the plan is accepted and line 8 unbroken
---   trip-plan, trip-8  the number of the first broken one of them: a refused plan gives its own, and with an accepted plan line 8 gives 8
+--   trip-accepted, trip-ends, trip-lock, fine-trip
+--                      the lines of plan and trip are unbroken exactly where the plan is accepted and lines 8 and 15 are unbroken
+--   trip-plan, trip-8, trip-15
+--                      the number of the first broken one of them: a refused plan gives its own, with an accepted plan line 8 gives 8, and where
+--                      that is unbroken line 15 gives 15
 --   ends-wrong, ends-fine, inside, ends-inside
 --                      line 8 is unbroken exactly where s and t are junctions
+--   lock-wrong, lock-right, right-lock
+--                      line 15 is unbroken exactly where the lock is not wrong
 --   instance-claim     InstanceClaim
 --   trip-refused       a broken line of plan or trip decides
 --   no-form, content-refused
@@ -24,12 +28,12 @@ use Rattle.plan.specs.Plan.{planOf, indicesOf}
 use Rattle.plan.specs.Refusals.{Line, about, planLines, firstBroken, refusal}
 use Rattle.plan.specs.Claims.{Unbroken}
 use Rattle.plan.specs.Reading.{Accepted}
-use Rattle.plan.proofs.Lists.{and-is, is-within}
-use Rattle.plan.proofs.LineFirst.{front-first, on-broken, past, none-broken, first-exactly, passed, first-about, unbroken-about, about-unbroken}
-use Rattle.route.specs.Refusals.{PlanTrip, Case, planTrip, broken8, broken11, broken12, broken13, broken14, line8, tripLines, sheetLines, checkLines, sheetRefusal}
+use Rattle.plan.proofs.Lists.{and-is, is-within, each}
+use Rattle.plan.proofs.LineFirst.{front-first, on-broken, on-unbroken, past, none-broken, first-exactly, passed, first-about, unbroken-about, about-unbroken}
+use Rattle.route.specs.Refusals.{PlanTrip, Case, planTrip, broken8, broken15, broken11, broken12, broken13, broken14, line8, line15, tripLines, sheetLines, checkLines, sheetRefusal}
 use Rattle.route.specs.declared.sheet.Sheet.{Sheet}
 use Rattle.route.specs.Routes.{wrongEnds, connects, cost, beltsByIndex}
-use Rattle.route.specs.Permission.{passes, termsOf, works}
+use Rattle.route.specs.Permission.{passes, wrongLock, termsOf, works}
 use Rattle.route.specs.Sheets.{inForm, beltsOn, costOn, settingOn}
 use Rattle.route.specs.Values.{idsOf}
 use Rattle.route.specs.Inner.{sheetBy, contentRefusal}
@@ -42,6 +46,10 @@ unfolding sheetRefusal
 first-refusal k n = first-exactly checkLines k n
 
 -- ---- lines of plans and trips
+
+-- those of trips
+abbrev behind : List (Line PlanTrip)
+behind = line8 ∷ line15 ∷ []
 
 -- those of plans
 abbrev front : List (Line PlanTrip)
@@ -56,26 +64,34 @@ module _ (k : PlanTrip) where
   unfolding refusal
   trip-accepted h = record {
     unrefused = none-broken planLines (k .plan)
-        (about-unbroken (λ (k : PlanTrip). k .plan) planLines k (λ l m. h l (Memᴰ·append-left (line8 ∷ []) m)));
+        (about-unbroken (λ (k : PlanTrip). k .plan) planLines k (λ l m. h l (Memᴰ·append-left behind m)));
   }
 
   pub trip-ends : Unbroken tripLines k → broken8 k ≡ false
   trip-ends h = h line8 (Memᴰ·append-right front (List·Memᴰ·head refl))
 
-  pub ends-trip : Accepted (k .plan) → broken8 k ≡ false → Unbroken tripLines k
-  ends-trip ok e l m = go (List·Memᴰ·append-cases front m)
-    where
-      go : List·Memᴰ l front ⊎ List·Memᴰ l (line8 ∷ []) → l .broken k ≡ false
-      go (inl a) = front-unbroken k ok l a
-      go (inr a) = ap (λ (y : Line PlanTrip). y .broken k) (List·Memᴰ·eq-of-singleton a) ∙ e
+  pub trip-lock : Unbroken tripLines k → broken15 k ≡ false
+  trip-lock h = h line15 (Memᴰ·append-right front (List·Memᴰ·tail (List·Memᴰ·head refl)))
 
-  -- the number of the first broken one: the plan's, or that of line 8
+  pub fine-trip : Accepted (k .plan) → broken8 k ≡ false → broken15 k ≡ false → Unbroken tripLines k
+  fine-trip ok e f l m = go (List·Memᴰ·append-cases front m)
+    where
+      go : List·Memᴰ l front ⊎ List·Memᴰ l behind → l .broken k ≡ false
+      go (inl a) = front-unbroken k ok l a
+      go (inr a) =
+          each (λ (y : Line PlanTrip). y .broken k ≡ false) e
+          (λ y b. ap (λ (z : Line PlanTrip). z .broken k) (List·Memᴰ·eq-of-singleton b) ∙ f) l a
+
+  -- the number of the first broken one: the plan's, that of line 8, or that of line 15
   pub trip-plan : (refusal (k .plan) ≡ 0 → ⊥) → firstBroken tripLines k ≡ refusal (k .plan)
   unfolding refusal
-  trip-plan h = front-first (line8 ∷ []) k front h
+  trip-plan h = front-first behind k front h
 
   pub trip-8 : Accepted (k .plan) → broken8 k ≡ true → firstBroken tripLines k ≡ 8
-  trip-8 ok e = past front (line8 ∷ []) k (front-unbroken k ok) ∙ on-broken line8 [] k e
+  trip-8 ok e = past front behind k (front-unbroken k ok) ∙ on-broken line8 (line15 ∷ []) k e
+
+  pub trip-15 : Accepted (k .plan) → broken8 k ≡ false → broken15 k ≡ true → firstBroken tripLines k ≡ 15
+  trip-15 ok e f = past front behind k (front-unbroken k ok) ∙ on-unbroken line8 (line15 ∷ []) k e ∙ on-broken line15 [] k f
 
   -- line 8
   pub ends-wrong : wrongEnds (planOf (k .plan)) (k .trip .s) (k .trip .t) ≡ true → broken8 k ≡ true
@@ -97,6 +113,19 @@ module _ (k : PlanTrip) where
       → (1 ≤ k .trip .s) × (k .trip .s ≤ planOf (k .plan) .junctions) × (1 ≤ k .trip .t) × (k .trip .t ≤ planOf (k .plan) .junctions)
   unfolding broken8
   ends-inside e = ends-junctions (planOf (k .plan)) (k .trip .s) (k .trip .t) e
+
+  -- line 15
+  pub lock-wrong : wrongLock (planOf (k .plan)) (k .trip .lock) ≡ true → broken15 k ≡ true
+  unfolding broken15
+  lock-wrong e = e
+
+  pub lock-right : wrongLock (planOf (k .plan)) (k .trip .lock) ≡ false → broken15 k ≡ false
+  unfolding broken15
+  lock-right e = e
+
+  pub right-lock : broken15 k ≡ false → wrongLock (planOf (k .plan)) (k .trip .lock) ≡ false
+  unfolding broken15
+  right-lock e = e
 
 pub instance-claim : InstanceClaim
 instance-claim k h =

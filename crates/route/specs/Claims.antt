@@ -1,6 +1,7 @@
 -- What is claimed of routes, permission and sheets, as types; proofs/Claims.antt proves them all. The contracts of the code say that its
 -- answers are what the definitions give; these say what the definitions mean. All are about ALL lists of bytes and ALL trips; `Accepted b` says
--- that b is a plan, `Unbroken tripLines k` that moreover the trip k is one that the plan has, `Bytes h` that the elements of h are bytes.
+-- that b is a plan, `Unbroken tripLines k` that moreover s and t of the trip k are its junctions, and the lock is not wrong (lines 8 and 15),
+-- `Bytes h` that the elements of h are bytes.
 --
 -- The published definition (source document 000):
 --   OrderFreeClaim     conditioning on an assignment does not depend on its order
@@ -11,6 +12,7 @@
 --   CostClaim          the cost of a route is the weight of its path
 -- Routes:
 --   LowestClaim        `lowest` is the lowest setting that works, and there is none exactly when the route is not permitted
+--   UnlockedClaim      where no mode is locked, a setting works exactly when every rule is met under it, so any setting may be chosen
 --   MaskClaim          it does not depend on more than which of the named belts a route has: the mask of these has the route's lowest setting
 --   OrderClaim         "comes before" is a strict total order on the routes from s to t
 --   UpwardClaim        there is no route from s to t where s > t, and only the empty one where s = t
@@ -26,7 +28,7 @@
 --   OneReadingClaim    a sheet has at most one reading
 --   RoundTripClaim     a sheet reads as what was written
 --   FirstRefusalClaim  the check answers n exactly when n is the number of the first broken line, and 0 exactly when none is broken
---   CheckClaim         DEMAND 2: the check accepts exactly when lines 1 to 8 are unbroken and the sheet reads as belts, cost and setting
+--   CheckClaim         DEMAND 2: the check accepts exactly when lines 1 to 8 and 15 are unbroken and the sheet reads as belts, cost and setting
 --                      that are a feasible solution (Solution) of the instance
 --   WrittenClaim       the sheet of a permitted route with its lowest setting is accepted; WriterClaim: and so is what the code writes
 --                      of a route that it holds
@@ -34,18 +36,18 @@
 -- Assumes nothing.
 use mathlib.Core.Path.{_≡_}
 use mathlib.Core.Logic.{_⊎_, _↔_}
-use mathlib.Core.Bool.{true, false}
+use mathlib.Core.Bool.{Bool, true, false}
 use mathlib.Core.Option.{none, some}
 use Prim.Native.Nat.{ℕ, _^_, _≤_, _<_}
 use mathlib.Core.List.{List, [], _++_, map, List·Memᴰ}
-use Rattle.plan.specs.Plan.{Belt, planOf, indicesOf}
+use Rattle.plan.specs.Plan.{Belt, Plan, planOf, indicesOf}
 use Rattle.plan.specs.Claims.{Unbroken, FirstIn}
 use Rattle.plan.specs.Reading.{Accepted, Bytes}
 use Rattle.route.specs.Lcsp.{Var, Lit, Formula, IsAssignment, _givenAll_, Satisfies, Arc, IsInstance, weightOf, FeasibleBy, Feasible}
 use Rattle.route.specs.declared.path.Trip.{Trip}
 use Rattle.route.specs.declared.sheet.Sheet.{Sheet}
 use Rattle.route.specs.Routes.{IsRoute, cost, before, routes, Distinct}
-use Rattle.route.specs.Permission.{passes, Terms, termsOf, works, Permitted, IsPermitted, lowest}
+use Rattle.route.specs.Permission.{passes, allMet, Terms, termsOf, works, Permitted, IsPermitted, lowest}
 use Rattle.route.specs.Subproblems.{Subproblem, admits, relaxed, Restricts}
 use Rattle.route.specs.Instances.{arcOf, instanceOf, joint}
 use Rattle.route.specs.Sheets.{sheetOf, Reads, inForm, beltsOn, costOn, settingOn}
@@ -83,6 +85,10 @@ LowestClaim = (terms : Terms) (r : List Belt) →
     ((σ : ℕ) → (lowest terms (passes r) ≡ some σ)
     ↔ ((σ < 2 ^ terms .modes) × (works terms (passes r) σ ≡ true) × ((τ : ℕ) → τ < σ → works terms (passes r) τ ≡ false)))
     × ((lowest terms (passes r) ≡ none) ↔ (Permitted terms r → ⊥))
+
+abbrev pub UnlockedClaim : Type 0
+UnlockedClaim = (p : Plan) (trip : Trip) → trip .lock .mask ≡ 0 → (on : ℕ → Bool) (σ : ℕ)
+    → works (termsOf p trip) on σ ≡ allMet (p .rules) on σ
 
 abbrev pub MaskClaim : Type 0
 MaskClaim = (b : List ℕ) → Accepted b → (trip : Trip) (r : List Belt) → ((e : Belt) → List·Memᴰ e r → List·Memᴰ e (planOf b .belts))
@@ -179,6 +185,7 @@ pub record Claims : Type 0 where
   pub paths : PathsClaim
   pub cost : CostClaim
   pub lowest : LowestClaim
+  pub unlocked : UnlockedClaim
   pub mask : MaskClaim
   pub order : OrderClaim
   pub upward : UpwardClaim

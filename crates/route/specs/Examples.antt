@@ -6,7 +6,7 @@
 --   planTwins         twin belts 4 and 5, and belt 6 that costs as much as either of them with belt 7
 use mathlib.Core.Path.{_≡_, refl}
 use mathlib.Core.Bool.{true}
-use mathlib.Core.Option.{none, some}
+use mathlib.Core.Option.{Option, none, some}
 use Prim.Native.Nat.{ℕ}
 use mathlib.Core.List.{List, [], _∷_, _++_, map}
 use Rattle.plan.specs.Records.{recordOf, rowOf, fits, linksAt, links}
@@ -16,12 +16,12 @@ use Rattle.plan.specs.Examples.{planP}
 use Rattle.route.specs.Lcsp.{_givenAll_}
 use Rattle.route.specs.Routes.{before, routes, beltsByIndex}
 use Rattle.route.specs.declared.path.Trip.{Trip}
-use Rattle.route.specs.Permission.{passes, planTerms, lowest}
+use Rattle.route.specs.Permission.{passes, noLock, termsOf, lowest}
 use Rattle.route.specs.Subproblems.{Subproblem, relaxed}
 use Rattle.route.specs.Instances.{arcOf, instanceOf, joint}
 use Rattle.route.specs.Sheets.{sheetOf, inForm}
 use Rattle.route.specs.Values.{subproblemIn}
-use Rattle.route.specs.Refusals.{broken8, broken11, broken12, broken13, broken14, sheetRefusal}
+use Rattle.route.specs.Refusals.{broken8, broken15, broken11, broken12, broken13, broken14, sheetRefusal}
 
 -- ---- routes of P
 
@@ -46,10 +46,17 @@ cheaper = refl
 -- ---- permission
 
 abbrev from-1-to-3 : Trip
-from-1-to-3 = record { s = 1; t = 3 }
+from-1-to-3 = record { s = 1; t = 3; lock = noLock }
 
-abbrev lowestOf : List ℕ → List ℕ → mathlib.Core.Option.Option ℕ
-lowestOf b es = lowest (planTerms (planOf b)) (passes (beltsByIndex (planOf b) es))
+-- the same with these modes locked, and these of them on
+abbrev locked-1-to-3 : ℕ → ℕ → Trip
+locked-1-to-3 mask values = record { s = 1; t = 3; lock = record { mask = mask; values = values } }
+
+abbrev lowestIn : List ℕ → Trip → List ℕ → Option ℕ
+lowestIn b trip es = lowest (termsOf (planOf b) trip) (passes (beltsByIndex (planOf b) es))
+
+abbrev lowestOf : List ℕ → List ℕ → Option ℕ
+lowestOf b es = lowestIn b from-1-to-3 es
 
 -- the rule: not belt 4, or not belt 6
 P-5 : lowestOf planP (5 ∷ []) ≡ some 0
@@ -86,6 +93,20 @@ planE10 =
 E10-4-6 : lowestOf planE10 (4 ∷ 6 ∷ []) ≡ some 1
 unfolding planE10 planOf
 E10-4-6 = refl
+
+-- locked off belt 4 is not permitted, and the clause of the lock is what conditioning leaves unmet; locked on, the mode counts for belt 5 too
+E10-4-6-off : lowestIn planE10 (locked-1-to-3 1 0) (4 ∷ 6 ∷ []) ≡ none
+unfolding planE10 planOf
+E10-4-6-off = refl
+
+E10-4-6-off-leaves :
+    instanceOf (planOf planE10) (locked-1-to-3 1 0) .formula givenAll joint (planOf planE10) (map arcOf (beltsByIndex (planOf planE10) (4 ∷ 6 ∷ []))) 1 ≡ [] ∷ []
+unfolding planE10 planOf
+E10-4-6-off-leaves = refl
+
+E10-5-on : lowestIn planE10 (locked-1-to-3 1 1) (5 ∷ []) ≡ some 1
+unfolding planE10 planOf
+E10-5-on = refl
 
 pub planEmpty : List ℕ
 planEmpty =
@@ -204,13 +225,13 @@ abbrev checkP : List ℕ → ℕ
 checkP h = sheetRefusal (record { plan = planP; trip = from-1-to-3; sheet = h })
 
 accepted : checkP sheetP ≡ 0
-unfolding planP sheetP inForm broken1 broken2 broken3 broken4 broken5 broken6 broken7 broken8 broken11 broken12 broken13 broken14 rowOf fits linksAt links planOf named sheetRefusal
+unfolding planP sheetP inForm broken1 broken2 broken3 broken4 broken5 broken6 broken7 broken8 broken15 broken11 broken12 broken13 broken14 rowOf fits linksAt links planOf named sheetRefusal
 accepted = refl
 
 unmet : checkP (sheetOf (4 ∷ 6 ∷ []) 7 0) ≡ 14
-unfolding planP sheetP inForm broken1 broken2 broken3 broken4 broken5 broken6 broken7 broken8 broken11 broken12 broken13 broken14 rowOf fits linksAt links planOf named sheetRefusal
+unfolding planP sheetP inForm broken1 broken2 broken3 broken4 broken5 broken6 broken7 broken8 broken15 broken11 broken12 broken13 broken14 rowOf fits linksAt links planOf named sheetRefusal
 unmet = refl
 
 high-cost : checkP (recordOf 8 1 1 0 9 0 ++ recordOf 5 0 5 0 0 0) ≡ 13
-unfolding planP sheetP inForm broken1 broken2 broken3 broken4 broken5 broken6 broken7 broken8 broken11 broken12 broken13 broken14 rowOf fits linksAt links planOf named sheetRefusal
+unfolding planP sheetP inForm broken1 broken2 broken3 broken4 broken5 broken6 broken7 broken8 broken15 broken11 broken12 broken13 broken14 rowOf fits linksAt links planOf named sheetRefusal
 high-cost = refl

@@ -6,6 +6,9 @@
 --   isTrue l belts σ
 --                   what a code says holds, where the mask `belts` has the named belts that are on the route, under the setting σ
 --   stores f l is   the array l with f i at place i, for each i of the list `is`
+--   settingsAt m σ  the settings that have the modes above m as σ has them, in rising order
+--   Settled p k m σ the modes above m are settled in the setting σ, and agree with the lock k; those up to m are as the values of k have them, so that
+--                   the locked ones agree and the others are off
 --   contentRefusal p trip v
 --                   the first broken one of lines 11 to 14 (sheetBy), or 0, by what a sheet in the form says
 -- The relaxed route, found from t backwards:
@@ -18,14 +21,15 @@
 --   wayCost o       the cost of a way on; wayLimit, which no route costs, if there is none
 --
 -- Assumes nothing.
-use Prim.Native.Nat.{ℕ, _/_, _%_, _^_, _≤_, _<_}
+use mathlib.Core.Path.{_≡_}
+use Prim.Native.Nat.{ℕ, _*_, _/_, _%_, _^_, _≤_, _<_}
 use mathlib.Core.Bool.{Bool, true, false, not, _&&_, Bool·beq}
 use mathlib.Core.Option.{Option, none, some}
 use mathlib.Core.List.{List, [], _∷_}
 use lib.ListN.{getD, set}
 use lib.Dec.{eqb, leb, ltb}
 use Rattle.plan.specs.Bounds.{maxModes, maxNamed, maxRecords}
-use Rattle.plan.specs.Lists.{all, keep, mem}
+use Rattle.plan.specs.Lists.{all, iota, keep, mem}
 use Rattle.plan.specs.Plan.{Belt, Plan, indicesOf}
 use Rattle.plan.specs.Words.{wayLimit}
 use Rattle.plan.specs.declared.read.Literal.{Literal}
@@ -33,9 +37,10 @@ use Rattle.plan.specs.declared.read.Literal.the-variants.{OfBelt, OfMode}
 use Rattle.route.specs.declared.clauses.Coded.{Coded}
 use Rattle.route.specs.declared.clauses.Coded.the-variants as coded
 use Rattle.route.specs.declared.sheet.Sheet.{Sheet}
+use Rattle.route.specs.declared.path.Lock.{Lock}
 use Rattle.route.specs.declared.path.Trip.{Trip}
 use Rattle.route.specs.Routes.{connects, cost, beltsByIndex}
-use Rattle.route.specs.Permission.{passes, isOn, termsOf, works}
+use Rattle.route.specs.Permission.{passes, isOn, agreesAt, wrongLock, termsOf, works}
 use Rattle.route.specs.Subproblems.{Subproblem, relaxed}
 use Rattle.route.specs.Values.{idsOf, inMask, LowPlace}
 
@@ -56,6 +61,17 @@ isTrue (coded.Mode m wanted) belts σ = Bool·beq (isOn σ (m .0)) wanted
 abbrev pub stores : (ℕ → ℕ) → List ℕ → List ℕ → List ℕ
 stores f l [] = l
 stores f l (i ∷ is) = stores f (set l i (f i)) is
+
+-- ---- modes
+
+abbrev pub settingsAt : ℕ → ℕ → List ℕ
+settingsAt m σ = iota (σ / 2 ^ m * 2 ^ m) (2 ^ m)
+
+pub record Settled (p : Plan) (k : Lock) (m σ : ℕ) : Type 0 where
+  pub fine : wrongLock p k ≡ false
+  pub few : m ≤ p .modes
+  pub above : (n : ℕ) → m < n → n ≤ p .modes → agreesAt k σ n ≡ true
+  pub rest : (n : ℕ) → 1 ≤ n → n ≤ m → isOn σ n ≡ isOn (k .values) n
 
 -- ---- the sheet check
 

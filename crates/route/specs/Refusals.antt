@@ -1,14 +1,14 @@
--- The check of a sheet against a plan: lines 1 to 8 and 11 to 14 of paper 01's table "Causes of refusal", each a sentence of its own
--- that is true where the line is broken, and the first broken one.
+-- The check of a sheet against a plan: lines 1 to 8 and 11 to 14 of paper 01's table "Causes of refusal", and line 15 of paper 02, each a
+-- sentence of its own that is true where the line is broken, and the first broken one.
 --
 --   PlanTrip            a plan's bytes and a trip
 --   Case                a plan's bytes, a trip and a sheet's bytes; planTrip k: the first two
---   broken8, broken11 to broken14
+--   broken8, broken15, broken11 to broken14
 --                       the line is broken. A sentence means what the paper says where the lines before it are unbroken
---   line8, line11 to line14
+--   line8, line15, line11 to line14
 --                       the lines, each with its number
 --   routeOn k           the belts that the sheet names
---   tripLines           lines 1 to 8, in the order in which they count: what is asked of a plan and a trip, whatever is done with them
+--   tripLines           lines 1 to 8 and 15, in the order in which they count: what is asked of a plan and a trip, whatever is done with them
 --   checkLines          those of the sheet check: tripLines, and 11 to 14
 --   sheetRefusal k      the number of the first broken one, or 0
 --   sheetNumber v       the paper's number of the check's answer, 0 where it is accepted
@@ -25,7 +25,7 @@ use Rattle.route.specs.declared.path.Trip.{Trip}
 use Rattle.route.specs.declared.check.SheetVerdict.{SheetVerdict}
 use Rattle.route.specs.declared.check.SheetVerdict.the-variants.{Accepted, Refused}
 use Rattle.route.specs.Routes.{wrongEnds, connects, cost, beltsByIndex}
-use Rattle.route.specs.Permission.{passes, termsOf, works}
+use Rattle.route.specs.Permission.{passes, wrongLock, termsOf, works}
 use Rattle.route.specs.Sheets.{inForm, beltsOn, costOn, settingOn}
 
 pub record PlanTrip : Type 0 where
@@ -43,6 +43,10 @@ planTrip k = record { plan = k .plan; trip = k .trip }
 -- 8: s or t outside 1 to J
 unfoldable pub broken8 : PlanTrip → Bool
 broken8 k = wrongEnds (planOf (k .plan)) (k .trip .s) (k .trip .t)
+
+-- 15: mask with a bit at or above M, or a value with a bit outside the mask
+unfoldable pub broken15 : PlanTrip → Bool
+broken15 k = wrongLock (planOf (k .plan)) (k .trip .lock)
 
 -- 11: sheet empty, over 3,072 bytes, not in the form, a step whose f2 is no belt's index, or setting 2^M or more
 unfoldable pub broken11 : Case → Bool
@@ -62,7 +66,7 @@ broken12 k = not (connects (k .trip .s) (k .trip .t) (routeOn k))
 unfoldable pub broken13 : Case → Bool
 broken13 k = not (eqb (cost (routeOn k)) (costOn (k .sheet)))
 
--- 14: a rule not met under the sheet's setting
+-- 14: a rule not met under the sheet's setting, or a setting that breaks the lock
 unfoldable pub broken14 : Case → Bool
 broken14 k = not (works (termsOf (planOf (k .plan)) (k .trip)) (passes (routeOn k)) (settingOn (k .sheet)))
 
@@ -70,6 +74,9 @@ broken14 k = not (works (termsOf (planOf (k .plan)) (k .trip)) (passes (routeOn 
 
 abbrev pub line8 : Line PlanTrip
 line8 = record { number = 8; broken = broken8 }
+
+abbrev pub line15 : Line PlanTrip
+line15 = record { number = 15; broken = broken15 }
 
 abbrev pub line11 : Line Case
 line11 = record { number = 11; broken = broken11 }
@@ -84,7 +91,7 @@ abbrev pub line14 : Line Case
 line14 = record { number = 14; broken = broken14 }
 
 abbrev pub tripLines : List (Line PlanTrip)
-tripLines = map (about (λ (k : PlanTrip). k .plan)) planLines ++ line8 ∷ []
+tripLines = map (about (λ (k : PlanTrip). k .plan)) planLines ++ line8 ∷ line15 ∷ []
 
 abbrev pub sheetLines : List (Line Case)
 sheetLines = line11 ∷ line12 ∷ line13 ∷ line14 ∷ []

@@ -1,4 +1,6 @@
-// The check of a sheet against a plan, for any bytes and any numbers: lines 1 to 8 and 11 to 14 of the refusal table.
+// The check of a sheet against a plan, for any bytes and any numbers: lines 1 to 8, 15 and 11 to 14 of the refusal table,
+// in this order.
+use crate::modes;
 use crate::path;
 use crate::path::Trip;
 use crate::rules;
@@ -16,11 +18,12 @@ ghost use Rattle.plan.specs.Bounds.{maxSteps};
 ghost use Rattle.plan.specs.Plan.{planOf};
 ghost use Rattle.plan.specs.Reading.{Accepted};
 ghost use Rattle.route.specs.Routes.{wrongEnds};
+ghost use Rattle.route.specs.Permission.{wrongLock};
 ghost use Rattle.route.specs.Refusals.{sheetNumber, sheetRefusal};
 ghost use Rattle.route.specs.Values.{caseOf};
 ghost use Rattle.route.specs.Inner.{contentRefusal};
 
-// What the check of a sheet answers: accepted, or refused by the first broken one of lines 1 to 8 and 11 to 14.
+// What the check of a sheet answers: accepted, or refused by the first broken one of lines 1 to 8, 15 and 11 to 14.
 pub enum SheetVerdict {
     Accepted,
     Refused(Refusal),
@@ -38,6 +41,7 @@ fn is_setting(p: &[u8], setting: u16) -> bool
 fn check_content(p: &[u8], trip: Trip, sheet: Sheet) -> SheetVerdict
     requires { ⌜ Accepted (now p)
         × (wrongEnds (planOf (now p)) (trip .s) (trip .t) ≡ false)
+        × (wrongLock (planOf (now p)) (trip .lock) ≡ false)
         × (sheet .route .count ≤ maxSteps) ⌝ }
     ensures { λ v. ⌜ sheetNumber v ≡ contentRefusal (planOf (now (p .entry))) trip sheet ⌝ }
 {
@@ -53,6 +57,9 @@ fn check_content(p: &[u8], trip: Trip, sheet: Sheet) -> SheetVerdict
     }
     if path::cost(p, route) != sheet.cost {
         return SheetVerdict::Refused(Refusal::WrongCost);
+    }
+    if !modes::agrees(trip.lock, sheet.setting) {
+        return SheetVerdict::Refused(Refusal::UnmetRule);
     }
     if !rules::met_by(p, route, sheet.setting) {
         return SheetVerdict::Refused(Refusal::UnmetRule);
@@ -70,6 +77,9 @@ pub fn check(p: &[u8], trip: Trip, h: &[u8]) -> SheetVerdict
     }
     if path::wrong_ends(p, trip) {
         return SheetVerdict::Refused(Refusal::WrongEnds);
+    }
+    if path::wrong_lock(p, trip.lock) {
+        return SheetVerdict::Refused(Refusal::WrongLock);
     }
     if !sheet::in_form(h) {
         return SheetVerdict::Refused(Refusal::WrongSheet);

@@ -13,15 +13,30 @@ ghost use Rattle.plan.specs.Lists.{all, mem, within};
 ghost use Rattle.plan.specs.Plan.{planOf, indicesOf};
 ghost use Rattle.plan.specs.Reading.{Accepted};
 ghost use Rattle.route.specs.Routes.{wrongEnds, connects, cost, costLimit};
+ghost use Rattle.route.specs.Permission.{noLock, wrongLock};
 ghost use Rattle.route.specs.Values.{idsOf, Known, routeIn, firstBelts, lowerIds};
 
 // Every route costs less. A sheet holds a cost in three fields.
 pub const COST_LIMIT: u64 = (FIELD_LIMIT * FIELD_LIMIT * FIELD_LIMIT) as u64;
 
-// What a route is asked or checked for: it leads from junction s to junction t.
+// The modes that the depot sets. Bit m-1 is for mode m: in `mask` it says that the mode is locked, in `values` that it is locked on.
+pub struct Lock {
+    pub mask: u64,
+    pub values: u64,
+}
+
+// The lock that locks no mode.
+pub fn no_lock() -> Lock
+    ensures { λ v. ⌜ v ≡ noLock ⌝ }
+{
+    Lock { mask: 0, values: 0 }
+}
+
+// What a route is asked or checked for: it leads from junction s to junction t, and is permitted under the lock.
 pub struct Trip {
     pub s: u64,
     pub t: u64,
+    pub lock: Lock,
 }
 
 // A route: its belts in order are the first `count` of the array.
@@ -69,6 +84,17 @@ pub fn wrong_ends(p: &[u8], trip: Trip) -> bool
         return true;
     }
     outside(p, trip.t)
+}
+
+// Line 15 of the refusal table: whether the mask has a bit at or above the number of modes, or the values have one outside the mask.
+pub fn wrong_lock(p: &[u8], lock: Lock) -> bool
+    requires { ⌜ Accepted (now p) ⌝ }
+    ensures { λ v. ⌜ v ≡ wrongLock (planOf (now (p .entry))) lock ⌝ }
+{
+    if (1u64 << read::modes(p)) <= lock.mask {
+        return true;
+    }
+    lock.values & lock.mask != lock.values
 }
 
 // Whether every belt of the route is a belt of the plan.

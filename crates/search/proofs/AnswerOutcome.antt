@@ -187,6 +187,8 @@ module _ (k : Request) (fine : searchRefusal k ≡ 0) where
         s-to = limits .s-to;
         t-from = limits .t-from;
         t-to = limits .t-to;
+        mask = limits .mask;
+        values = limits .values;
         pick = limits .pick;
         order = limits .order;
         budget = omega arith;

@@ -1,8 +1,8 @@
--- What is refused: lines 1 to 8 are those of the sheet check, about a plan and a trip; lines 9 and 10 are comparisons of numbers.
+-- What is refused: lines 1 to 8 and 15 are those of the sheet check, about a plan and a trip; lines 9 and 10 are comparisons of numbers.
 -- A request is refused with the number of the first broken line, and what is not refused comes to something else than a refusal.
 --
 --   first-refusal      searchRefusal answers n exactly when n is the number of the first broken line, and 0 exactly when none is broken;
---                      first-numbered: that number is from 1 to 10
+--                      first-numbered: that number is from 1 to 10, or 15
 --   query-trip, query-9, trip-query, query-accepted
 --                      the lines of what is asked are unbroken exactly where those of the trip and line 9 are; then the plan is accepted
 --   zero-query, zero-10, query-zero
@@ -13,31 +13,32 @@
 --   outcome-refused, outcome-ended
 --                      the outcome, by whether a line is broken
 --   ended-answered     a run that has an ending comes to a route, to none or to spent; ended-unrefused: no run comes to a refusal
---   refused-claim      RefusedClaim; refused-numbered: the number of a refusal is from 1 to 10
+--   refused-claim      RefusedClaim; refused-numbered: the number of a refusal is from 1 to 10, or 15
 --   route-unrefused    what comes to a route is not refused
 --   unchanged-claim    UnchangedClaim
 --
 -- Assumes nothing.
 use mathlib.Core.Path.{_≡_, refl, sym, _∙_, ap, subst}
 use mathlib.Core.Logic.{_⊎_, inl, inr, _↔_}
-use mathlib.Core.Bool.{Bool, false, not, _&&_}
+use mathlib.Core.Bool.{Bool, true, false, not, _&&_, _||_}
 use mathlib.Core.Option.{Option, none, some}
 use Prim.Native.Nat.{ℕ, zero, suc, _≤_}
 use mathlib.Core.List.{List, [], _∷_, map, List·Memᴰ, List·Memᴰ·head, List·Memᴰ·tail, List·Memᴰ·eq-of-singleton, List·Memᴰ·append-cases, Memᴰ·append-left, Memᴰ·append-right}
 use native.Mathlib.Omega.{arith}
-use lib.Dec.{leb}
-use borrow.Author.Tests.{ltb-false, leb-true, le-leb, le-ltb, not-false}
+use lib.Dec.{eqb, leb}
+use borrow.Author.Tests.{eqb-true, ltb-false, leb-true, le-leb, le-ltb, not-false}
 use Rattle.plan.specs.Bounds.{maxSheetBytes}
 use Rattle.plan.specs.Plan.{Belt, planOf}
 use Rattle.plan.specs.Refusals.{Line, about}
 use Rattle.plan.specs.Reading.{Accepted}
 use Rattle.plan.specs.Claims.{Unbroken, FirstIn}
-use Rattle.plan.proofs.Lists.{both, all-in}
+use Rattle.plan.proofs.Lists.{both, either, all-in}
 use Rattle.plan.proofs.LineFirst.{first-exactly, passed, none-broken, unbroken-about, about-unbroken}
 use Rattle.plan.proofs.Reading.{limits, in-limits}
 use Rattle.route.specs.Permission.{Terms, termsOf}
 use Rattle.route.specs.Refusals.{tripLines}
-use Rattle.route.proofs.SheetLines.{trip-accepted, trip-ends, ends-trip, inside, ends-inside}
+use Rattle.route.proofs.RulesLock.{lock-limits}
+use Rattle.route.proofs.SheetLines.{trip-accepted, trip-ends, trip-lock, fine-trip, inside, ends-inside, lock-right, right-lock}
 use Rattle.search.specs.Search.{Ending, foundRoute, foundNone, budgetSpent, Turn, run}
 use Rattle.search.specs.Answers.{Asked, Request, tripIn, asked, broken9, broken10, line9, line10, queryLines, searchLines, searchRefusal, Outcome, refused, route, nothing, spent, paused, endingOf, endedBy, ended, problemIn, unlessRefused, outcome, outAfter}
 use Rattle.search.specs.Claims.{RefusedClaim, InLimits, InLimitsClaim, Answered, UnchangedClaim}
@@ -48,15 +49,22 @@ first-refusal : (k : Request) (n : ℕ) → (searchRefusal k ≡ n) ↔ (((n ≡
 unfolding searchRefusal
 first-refusal k n = first-exactly searchLines k n
 
--- the lines have the numbers 1 to 10
-first-numbered : (k : Request) (n : ℕ) → FirstIn searchLines k n → (1 ≤ n) × (n ≤ 10)
+-- the lines have the numbers 1 to 10, and 15
+abbrev pub Numbered : ℕ → Type 0
+Numbered n = (1 ≤ n) × ((n ≤ 10) ⊎ (n ≡ 15))
+
+first-numbered : (k : Request) (n : ℕ) → FirstIn searchLines k n → Numbered n
 first-numbered k n f =
-    let numbered : Line Request → Bool = λ (l : Line Request). leb 1 (l .number) && leb (l .number) 10 in
+    let l = f .line .number in
+    let numbered : Line Request → Bool = λ (l : Line Request). leb 1 (l .number) && (leb (l .number) 10 || eqb (l .number) 15) in
     let m : List·Memᴰ (f .line) searchLines =
     subst (List·Memᴰ (f .line)) (sym (f .split)) (Memᴰ·append-right (f .before) (List·Memᴰ·head refl)) in
-    let e : f .line .number ≡ n = f .number in
-    let (low, high) = both (leb 1 (f .line .number)) (leb (f .line .number) 10) (all-in numbered searchLines refl m) in
-    (omega (arith, leb-true 1 (f .line .number) low), omega (arith, leb-true (f .line .number) 10 high))
+    let (low, high) = both (leb 1 l) (leb l 10 || eqb l 15) (all-in numbered searchLines refl m) in
+    subst Numbered (f .number) (leb-true 1 l low, go l (either (leb l 10) (eqb l 15) high))
+  where
+    go : (l : ℕ) → (leb l 10 ≡ true) ⊎ (eqb l 15 ≡ true) → (l ≤ 10) ⊎ (l ≡ 15)
+    go l (inl t) = inl (leb-true l 10 t)
+    go l (inr t) = inr (eqb-true l 15 t)
 
 -- ---- what unbroken lines say
 
@@ -133,13 +141,17 @@ limits-claim k = (to, from)
     to h =
         let ok = in-limits (k .plan) (h .plan) in
         let trip = tripIn (asked k) in
-        let ends = ends-trip trip ok (inside trip (h .s-from) (h .s-to) (h .t-from) (h .t-to)) in
-        query-zero k (trip-query (asked k) ends (right-query (asked k) (h .pick) (h .order) (h .budget))) (long-buffer k (h .room))
+        let ends = inside trip (h .s-from) (h .s-to) (h .t-from) (h .t-to) in
+        let lock = lock-right trip (lock-limits (planOf (k .plan)) (k .query .trip .lock) .1 (h .mask, h .values)) in
+        query-zero k (trip-query (asked k) (fine-trip trip ok ends lock) (right-query (asked k) (h .pick) (h .order) (h .budget))) (long-buffer k (h .room))
 
     from : searchRefusal k ≡ 0 → InLimits k
     from e =
         let fine = zero-query k e in
-        let (a, b, c, d) = ends-inside (tripIn (asked k)) (trip-ends (tripIn (asked k)) (query-trip (asked k) fine)) in
+        let trip = tripIn (asked k) in
+        let (a, b, c, d) = ends-inside trip (trip-ends trip (query-trip (asked k) fine)) in
+        let locked = right-lock trip (trip-lock trip (query-trip (asked k) fine)) in
+        let (mask, values) = lock-limits (planOf (k .plan)) (k .query .trip .lock) .0 locked in
         let (pick, order, budget) = query-right (asked k) (query-9 (asked k) fine) in
         record {
           plan = limits (query-accepted (asked k) fine);
@@ -147,6 +159,8 @@ limits-claim k = (to, from)
           s-to = b;
           t-from = c;
           t-to = d;
+          mask = mask;
+          values = values;
           pick = pick;
           order = order;
           budget = budget;
@@ -214,7 +228,7 @@ refused-claim k n = (to (searchRefusal k) refl, λ f. from n (first-refusal k n 
     from (suc m) e l = outcome-refused k m e
 
 -- a refusal is no other answer
-pub refused-numbered : (k : Request) (n : ℕ) → outcome k ≡ refused n → (1 ≤ n) × (n ≤ 10)
+pub refused-numbered : (k : Request) (n : ℕ) → outcome k ≡ refused n → Numbered n
 refused-numbered k n h = first-numbered k n (refused-claim k n .0 h)
 
 pub route-unrefused : (k : Request) (es : List ℕ) (c σ n : ℕ) → outcome k ≡ route es c σ n → searchRefusal k ≡ 0

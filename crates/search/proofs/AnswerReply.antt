@@ -28,8 +28,9 @@ use Rattle.plan.specs.Reading.{Accepted}
 use Rattle.plan.proofs.LineFirst.{front-first, on-broken, on-unbroken, past, passed, first-about, unbroken-about}
 use Rattle.plan.proofs.LineNumbers.{nonzero}
 use Rattle.route.specs.declared.path.Route.{Route}
+use Rattle.route.specs.declared.path.Trip.{Trip}
 use Rattle.route.specs.Routes.{cost}
-use Rattle.route.specs.Permission.{Terms, planTerms, termsOf}
+use Rattle.route.specs.Permission.{Terms, termsOf}
 use Rattle.route.specs.Sheets.{sheetOf}
 use Rattle.route.specs.Refusals.{tripLines}
 use Rattle.route.specs.Values.{idsOf, Known, routeIn}
@@ -48,13 +49,13 @@ use Rattle.search.proofs.RunSteps.{run-found}
 -- ---- the sheet of the best route
 
 -- c, σ and size are the sheet's cost, setting and length
-pub written-best : {b : List ℕ} → Accepted b → (v : Search) → Known b (v .best) → (c σ size : ℕ) (before after : List ℕ)
-    → c ≡ cost (routeIn b (v .best)) → σ ≡ orZero (settingOf (planTerms (planOf b)) (routeIn b (v .best)))
+pub written-best : {b : List ℕ} → Accepted b → (trip : Trip) (v : Search) → Known b (v .best) → (c σ size : ℕ) (before after : List ℕ)
+    → c ≡ cost (routeIn b (v .best)) → σ ≡ orZero (settingOf (termsOf (planOf b) trip) (routeIn b (v .best)))
     → size ≡ length (sheetOf (idsOf (v .best)) c σ) → after ≡ sheetOf (idsOf (v .best)) c σ ++ drop size before
-    → Told (reply 0 (v .opened) size) before after (bestOf b v)
-written-best {b} ok v k c σ size before after ec eσ es ea =
+    → Told (reply 0 (v .opened) size) before after (bestOf b trip v)
+written-best {b} ok trip v k c σ size before after ec eσ es ea =
     let ids = idsOf (v .best) in
-    let same : route ids c σ (v .opened) ≡ bestOf b v = λ i. route (sym (known-indices ok (v .best) k) i) (ec i) (eσ i) (v .opened) in
+    let same : route ids c σ (v .opened) ≡ bestOf b trip v = λ i. route (sym (known-indices ok (v .best) k) i) (ec i) (eσ i) (v .opened) in
     subst (Told (reply 0 (v .opened) size) before after) same
     (ap (reply 0 (v .opened)) es, ea ∙ ap (λ (n : ℕ). sheetOf ids c σ ++ drop n before) es)
 
@@ -77,13 +78,13 @@ module _ (b : List ℕ) (q : Query) (v : Stepped) (same : turnIn b v ≡ run (pr
       → endedBy terms (stateIn b (v .search)) (endingIn x) ≡ unlessRefused 0 (requestOf b q out)
   turn-ended out x e = ap (λ (y : code.Ending). endedBy terms (stateIn b (v .search)) (endingIn y)) (sym e) ∙ ap (ended terms) same
 
-  pub turn-found : (out : List ℕ) → v .ending ≡ Found → bestOf b (v .search) ≡ unlessRefused 0 (requestOf b q out)
+  pub turn-found : (out : List ℕ) → v .ending ≡ Found → bestOf b (q .trip) (v .search) ≡ unlessRefused 0 (requestOf b q out)
   turn-found out e =
       ap (λ (t : Bool). endingOf terms (v .search .opened) (bestIn b t (v .search .best)) foundRoute) (sym (found-held e)) ∙ turn-ended out Found e
 
 -- ---- the first broken line
 
--- lines 1 to 8 as lines of what is asked, and 1 to 9 as lines of a request
+-- lines of the plan and the trip as lines of what is asked, and those of what is asked as lines of a request
 abbrev tripFront : List (Line Asked)
 tripFront = map (about tripIn) tripLines
 

@@ -74,7 +74,7 @@ module _ {b : List ℕ} (ok : Accepted b) (q : Query) (f : Fixings) where
       let p = planOf b in
       let named-same : (e : ℕ) → List·Memᴰ e (named p) → hasBelt b m e ≡ passes (routeIn b r) e =
       λ e i. ap (λ (k : ℕ). hasBelt b k e) (there .mask) ∙ mask-belt ok r (there .known) e i in
-      let setting = ap (λ (k : ℕ). lowest (termsOf p (q .trip)) (hasBelt b k)) (there .mask) ∙ lowest-mask ok r (there .known) in
+      let setting = ap (λ (k : ℕ). lowest (termsOf p (q .trip)) (hasBelt b k)) (there .mask) ∙ lowest-mask ok (q .trip) r (there .known) in
       let picked = pick-cong (q .pick) p (subproblemIn b f) (hasBelt b m) (passes (routeIn b r)) named-same in
       λ i. testedAs (pickedPlace (named p) (picked i)) (setting i)
 

@@ -5,7 +5,7 @@
 --   Request             a plan's bytes, a query, and the length of the lent out buffer; asked k: the first two
 --   wrongQuery q        pick, order or budget of the query q are wrong
 --   broken9, broken10   the line is broken; line9, line10: with its number
---   queryLines          lines 1 to 9, in the order in which they count: what is asked of a plan and a query, whatever is lent beside them
+--   queryLines          lines 1 to 8, 15 and 9, in the order in which they count: what is asked of a plan and a query, whatever is lent beside them
 --   searchLines         those of a search: queryLines, and 10
 --   searchRefusal k     the number of the first broken one, or 0
 --   Outcome             a refusal; or a route's belts, cost and setting, with the count; or none, spent, or paused, with the count

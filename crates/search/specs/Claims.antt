@@ -54,7 +54,7 @@ use Rattle.route.specs.Routes.{IsRoute, cost, before}
 use Rattle.route.specs.declared.path.Trip.{Trip}
 use Rattle.route.specs.Lcsp.{Arc, weightOf, Feasible, Solves}
 use Rattle.route.specs.Instances.{instanceOf}
-use Rattle.route.specs.Permission.{passes, termsOf, Permitted, IsPermitted, lowest}
+use Rattle.route.specs.Permission.{passes, isOn, termsOf, Permitted, IsPermitted, lowest}
 use Rattle.route.specs.Subproblems.{Subproblem, admits}
 use Rattle.route.specs.Sheets.{sheetOf, Reads}
 use Rattle.route.specs.Refusals.{sheetRefusal}
@@ -76,6 +76,9 @@ pub record InLimits (k : Request) : Type 0 where
   pub s-to : k .query .trip .s ≤ planOf (k .plan) .junctions
   pub t-from : 1 ≤ k .query .trip .t
   pub t-to : k .query .trip .t ≤ planOf (k .plan) .junctions
+  -- every bit of the mask is that of a mode, and every bit of the values is one of the mask's; bit n-1 is that of mode n
+  pub mask : (n : ℕ) → 1 ≤ n → isOn (k .query .trip .lock .mask) n ≡ true → n ≤ planOf (k .plan) .modes
+  pub values : (n : ℕ) → 1 ≤ n → isOn (k .query .trip .lock .values) n ≡ true → isOn (k .query .trip .lock .mask) n ≡ true
   pub pick : k .query .pick ≤ 2
   pub order : k .query .order ≤ 1
   pub budget : 1 ≤ k .query .budget

@@ -18,7 +18,7 @@
 -- Answers:
 --   Listed b numbers places clauses
 --                         the plan b is accepted, and the arrays have its number of modes, the places of its named belts, and its clauses
---   bestOf b v            what a search that found its best route comes to
+--   bestOf b trip v       what a search for the trip that found its best route comes to
 --
 -- Assumes nothing.
 use mathlib.Core.Path.{_≡_}
@@ -37,9 +37,10 @@ use Rattle.plan.specs.Lists.{countBy, keep, upto}
 use Rattle.plan.specs.Plan.{Belt, planOf, named}
 use Rattle.plan.specs.Reading.{Bytes}
 use Rattle.route.specs.declared.path.Route.{Route}
+use Rattle.route.specs.declared.path.Trip.{Trip}
 use Rattle.route.specs.declared.relax.Fixings.{Fixings}
 use Rattle.route.specs.Routes.{cost}
-use Rattle.route.specs.Permission.{planTerms, termsOf, lowest}
+use Rattle.route.specs.Permission.{termsOf, lowest}
 use Rattle.route.specs.Values.{packed, routeIn, routeOf, inMask, withPlace, subproblemIn, namedPlaces, Ruled}
 use Rattle.search.specs.declared.query.Query.{Query}
 use Rattle.search.specs.declared.state.Search.{Search}
@@ -120,5 +121,5 @@ pub record Listed (b numbers places clauses : List ℕ) : Type 0 where
   pub placed : places ≡ namedPlaces b
   pub bytes : Bytes b
 
-abbrev pub bestOf : List ℕ → Search → Outcome
-bestOf b v = bestRoute (planTerms (planOf b)) (v .opened) (some (routeIn b (v .best)))
+abbrev pub bestOf : List ℕ → Trip → Search → Outcome
+bestOf b trip v = bestRoute (termsOf (planOf b) trip) (v .opened) (some (routeIn b (v .best)))

@@ -22,7 +22,7 @@
 --                       is of belts of the plan and its bound is what that costs, and what is not in use is 0. So equal states are equal values
 --                       (Claims.antt)
 --   Ready b words numbers places clauses q
---                       the arrays are the prepared plan b, and s and t of the query q are its junctions
+--                       the arrays are the prepared plan b, s and t of the query q are its junctions, and the lock is not wrong
 --   stepIn b q v        one step of the query q from the state that a Search stands for
 --   newestOf v          the masks of the newest subproblem that waits
 --   relaxedIn b q f     the relaxed route of the masks f for the trip q
@@ -49,6 +49,7 @@ use Rattle.route.specs.declared.path.Route.{Route}
 use Rattle.route.specs.declared.path.Trip.{Trip}
 use Rattle.route.specs.declared.relax.Fixings.{Fixings}
 use Rattle.route.specs.Routes.{wrongEnds, cost}
+use Rattle.route.specs.Permission.{wrongLock}
 use Rattle.route.specs.Subproblems.{Subproblem, relaxed}
 use Rattle.route.specs.Values.{idsOf, packed, Known, routeIn, OfNamed, subproblemIn, namedPlaces, atMost, unbounded, walkedOf, Clauses}
 use Rattle.search.specs.declared.query.Query.{Query}
@@ -148,6 +149,7 @@ pub record Valid (b : List ℕ) (v : Search) : Type 0 where
 pub record Ready (b words numbers places clauses : List ℕ) (q : Query) : Type 0 where
   pub prepared : Prepared b words numbers places clauses
   pub junctions : wrongEnds (planOf b) (q .trip .s) (q .trip .t) ≡ false
+  pub lock : wrongLock (planOf b) (q .trip .lock) ≡ false
 
 abbrev pub newestOf : Search → Fixings
 newestOf v = getD (v .waiting) (v .count - 1) noFixings

@@ -1,4 +1,4 @@
-// The planner's answer to a query, for any bytes and any numbers: lines 1 to 10 of the refusal table, and the search.
+// The planner's answer to a query, for any bytes and any numbers: lines 1 to 8, 15, 9 and 10 of the refusal table, in this order, and the search.
 use crate::prepare;
 use crate::query;
 use crate::query::Query;
@@ -18,6 +18,7 @@ use route::masks;
 use route::modes;
 use route::modes::Lowest;
 use route::path;
+use route::path::Trip;
 use route::sheet;
 use route::sheet::Sheet;
 ghost use mathlib.Core.Path.{_≡_};
@@ -29,6 +30,7 @@ ghost use Rattle.plan.specs.Bounds.{maxSheetBytes};
 ghost use Rattle.plan.specs.Plan.{planOf};
 ghost use Rattle.plan.specs.Reading.{Accepted};
 ghost use Rattle.route.specs.Routes.{wrongEnds};
+ghost use Rattle.route.specs.Permission.{wrongLock};
 ghost use Rattle.route.specs.Values.{settingIn};
 ghost use Rattle.search.specs.Answers.{orZero, unlessRefused, outcome, replyOf, Told};
 ghost use Rattle.search.specs.Values.{isHeld, Valid, Ready, requestOf};
@@ -49,7 +51,7 @@ pub enum Answer {
     Spent(u64),
     // The search is not at its end: how many were opened. A search to its end never answers so.
     Paused(u64),
-    // Refused by the first broken one of lines 1 to 10.
+    // Refused by the first broken one of lines 1 to 8, 15, 9 and 10.
     Refused(Refusal),
 }
 
@@ -71,30 +73,39 @@ fn setting_of(lowest: Lowest) -> u16
     }
 }
 
-// Writes the sheet of the best route of a search that has found it, and answers its length. `numbers`, `places` and `clauses` are those of a prepared plan.
+// Writes the sheet of the best route of a search for a trip that has found it, and answers its length. `numbers`, `places` and `clauses` are those of a
+// prepared plan.
 fn write_best(
     numbers: &[u16; NUMBERS],
     places: &[u8; MAX_RECORDS],
     clauses: &[u32],
+    trip: Trip,
     search: Search,
     out: &mut [u8],
 ) -> Answer
     requires { ⌜ ((b : List ℕ)
         × Listed b (now numbers) (now places) (now clauses)
-        × Valid b search)
+        × Valid b search
+        × (wrongLock (planOf b) (trip .lock) ≡ false))
         × (isHeld (search .bound) ≡ true)
         × (maxSheetBytes ≤ length (now out)) ⌝ }
     ensures { λ v. ⌜ ((b : List ℕ)
         → Listed b (now (numbers .entry)) (now (places .entry)) (now (clauses .entry))
         → Valid b search
-        → Told (replyOf v) (now (out .entry)) (now (out .exit)) (bestOf b search)) ⌝ }
+        → wrongLock (planOf b) (trip .lock) ≡ false
+        → Told (replyOf v) (now (out .entry)) (now (out .exit)) (bestOf b trip search)) ⌝ }
 {
     let route = search.best;
     let modes = words::wide(numbers[words::MODES]);
     let sheet = Sheet {
         route: route,
         cost: search.bound,
-        setting: setting_of(modes::lowest_setting(modes, clauses, masks::on_route(places, route))),
+        setting: setting_of(modes::lowest_setting(
+            modes,
+            clauses,
+            trip,
+            masks::on_route(places, route),
+        )),
     };
     let size = sheet::write(out, sheet);
     Answer::Found(search.opened, size)
@@ -120,7 +131,7 @@ pub fn find(
     let search = stepped.search;
     let ending = stepped.ending;
     match ending {
-        Ending::Found => write_best(numbers, places, clauses, search, out),
+        Ending::Found => write_best(numbers, places, clauses, query.trip, search, out),
         Ending::Nothing => Answer::Nothing(search.opened),
         Ending::Spent => Answer::Spent(search.opened),
         Ending::GoesOn => Answer::Paused(search.opened),
@@ -131,6 +142,7 @@ pub fn find(
 fn find_route(p: &[u8], query: Query, out: &mut [u8]) -> Answer
     requires { ⌜ Accepted (now p)
         × (wrongEnds (planOf (now p)) (query .trip .s) (query .trip .t) ≡ false)
+        × (wrongLock (planOf (now p)) (query .trip .lock) ≡ false)
         × (maxSheetBytes ≤ length (now out)) ⌝ }
     ensures { λ v. ⌜ Told (replyOf v) (now (out .entry)) (now (out .exit)) (unlessRefused 0 (requestOf (now (p .entry)) query (now (out .entry)))) ⌝ }
 {
@@ -158,6 +170,9 @@ pub fn search(p: &[u8], query: Query, out: &mut [u8]) -> Answer
     }
     if path::wrong_ends(p, query.trip) {
         return Answer::Refused(Refusal::WrongEnds);
+    }
+    if path::wrong_lock(p, query.trip.lock) {
+        return Answer::Refused(Refusal::WrongLock);
     }
     if query::wrong_query(query) {
         return Answer::Refused(Refusal::WrongQuery);

@@ -17,12 +17,14 @@ use route::relax;
 use route::relax::Fixings;
 use route::relax::WAYS;
 ghost use mathlib.Core.Path.{_≡_};
+ghost use mathlib.Core.Bool.{false};
 ghost use mathlib.Core.List.{List};
 ghost use Prim.Native.Nat.{ℕ, _≤_, _<_};
 ghost use lib.ListN.{length, replicate};
 ghost use Rattle.plan.specs.Bounds.{maxSteps};
 ghost use Rattle.plan.specs.Plan.{planOf};
 ghost use Rattle.plan.specs.declared.named.Place.the-variants.{At};
+ghost use Rattle.route.specs.Permission.{wrongLock};
 ghost use Rattle.route.specs.Values.{hasBelt, Ruled};
 ghost use Rattle.route.specs.Ways.{wayPlaces};
 ghost use Rattle.search.specs.Values.{numbersOf, turnIn, Valid, isHeld, firstSearch, noFixings, Ready, stepIn, walkedIn};
@@ -117,13 +119,20 @@ fn judge(
 ) -> Judged
     requires { ⌜ ((b : List ℕ)
         × Ruled b (now clauses)
-        × (now numbers ≡ numbersOf (planOf b))) ⌝ }
+        × (now numbers ≡ numbersOf (planOf b))
+        × (wrongLock (planOf b) (query .trip .lock) ≡ false)) ⌝ }
     ensures { λ v. ⌜ ((b : List ℕ)
         → Ruled b (now (clauses .entry))
         → now (numbers .entry) ≡ numbersOf (planOf b)
+        → wrongLock (planOf b) (query .trip .lock) ≡ false
         → v ≡ judgedIn b query fixings (hasBelt b mask)) ⌝ }
 {
-    let setting = modes::lowest_setting(words::wide(numbers[words::MODES]), clauses, mask);
+    let setting = modes::lowest_setting(
+        words::wide(numbers[words::MODES]),
+        clauses,
+        query.trip,
+        mask,
+    );
     match setting {
         Lowest::Works(lowest) => Judged::Best,
         Lowest::Nothing => {

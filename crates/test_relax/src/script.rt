@@ -8,6 +8,7 @@
 //
 // A record is an index and six fields.
 use crate::answers;
+use route::path;
 use route::path::Trip;
 use test_cases::lines;
 use test_cases::plans;
@@ -22,6 +23,7 @@ fn case(plan: Plan, text: &[u8], at: usize) {
     let trip = Trip {
         s: s.value,
         t: t.value,
+        lock: path::no_lock(),
     };
     answers::answer(plan, trip, text, t.next);
 }

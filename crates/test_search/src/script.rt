@@ -7,16 +7,28 @@
 //                   with 1,000,000
 //   name 1 3 0 1 5 ~ 3071
 //                   a case with one pick, order and budget, and if said so with an out buffer of another length than 3,072
+//   name .. + 3 1   a case with a lock: its mask and its values
 //   name !          a case that lists the plan's routes
 //
 // A record is an index and six fields.
 use crate::answers;
+use route::path::Lock;
 use route::path::Trip;
 use search::query::Query;
 use test_cases::lines;
 use test_cases::plans;
 use test_cases::plans::Plan;
 use test_cases::print::print_name;
+
+// The lock behind the plus of the line; without a plus no mode is locked.
+fn lock_of(text: &[u8], at: usize) -> Lock {
+    let mask = lines::next_number(text, lines::behind(text, at, b'+'));
+    let values = lines::next_number(text, mask.next);
+    Lock {
+        mask: mask.value,
+        values: values.value,
+    }
+}
 
 // The case behind the name that ends at `at`.
 fn case(p: &[u8], text: &[u8], at: usize) {
@@ -29,6 +41,7 @@ fn case(p: &[u8], text: &[u8], at: usize) {
     let trip = Trip {
         s: s.value,
         t: t.value,
+        lock: lock_of(text, t.next),
     };
     if lines::byte_at(text, t.next, 1) == b'*' {
         let budgets = lines::next_number(text, lines::behind(text, t.next, b'*'));

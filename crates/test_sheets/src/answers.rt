@@ -8,10 +8,14 @@ use route::sheet::Sheet;
 use test_cases::plans::Plan;
 use test_cases::print::print_number;
 use test_cases::records::Bytes;
+ghost use mathlib.Core.Path.{_≡_};
+ghost use mathlib.Core.Bool.{false};
 ghost use Prim.Native.Nat.{_≤_, _<_};
 ghost use Rattle.plan.specs.Bounds.{maxSteps};
+ghost use Rattle.plan.specs.Plan.{planOf};
 ghost use Rattle.plan.specs.Reading.{Accepted};
 ghost use Rattle.route.specs.Routes.{costLimit};
+ghost use Rattle.route.specs.Permission.{wrongLock};
 ghost use Rattle.route.specs.Values.{Known};
 
 // What is printed.
@@ -78,24 +82,26 @@ fn print_written(p: &[u8], trip: Trip, sheet: Sheet)
     print_sheet(p, trip, &out, n);
 }
 
-// The lowest setting of a route.
-fn lowest_of(p: &[u8], r: Route) -> Lowest
+// The lowest setting of a route for a trip.
+fn lowest_of(p: &[u8], trip: Trip, r: Route) -> Lowest
     requires { ⌜ Accepted (now p)
-        × Known (now p) r ⌝ }
+        × Known (now p) r
+        × (wrongLock (planOf (now p)) (trip .lock) ≡ false) ⌝ }
 {
     let places = plan::named::named_places(p);
     let mut clauses = [0u32; MAX_RECORDS];
     route::clauses::decode(p, &places, &mut clauses);
     let mask = route::masks::on_route(&places, r);
-    route::modes::lowest_setting(plan::read::modes(p), &clauses, mask)
+    route::modes::lowest_setting(plan::read::modes(p), &clauses, trip, mask)
 }
 
 // The lowest setting of a route, and its sheet.
 fn print_setting(p: &[u8], trip: Trip, r: Route)
     requires { ⌜ Accepted (now p)
-        × Known (now p) r ⌝ }
+        × Known (now p) r
+        × (wrongLock (planOf (now p)) (trip .lock) ≡ false) ⌝ }
 {
-    let lowest = lowest_of(p, r);
+    let lowest = lowest_of(p, trip, r);
     match lowest {
         Lowest::Works(setting) => {
             print_number(b" setting ", setting as u64);
@@ -116,13 +122,17 @@ fn print_setting(p: &[u8], trip: Trip, r: Route)
     }
 }
 
-// The same, where the belts are the plan's.
+// The same, where the belts and the locked modes are the plan's.
 fn print_belts(p: &[u8], trip: Trip, r: Route)
     requires { ⌜ Accepted (now p)
         × (r .count ≤ maxSteps) ⌝ }
 {
     if !route::path::are_belts(p, r) {
         io::write_all(1, b" no belts");
+        return;
+    }
+    if route::path::wrong_lock(p, trip.lock) {
+        io::write_all(1, b" no lock");
         return;
     }
     print_setting(p, trip, r);

@@ -6,6 +6,8 @@
 //   name 1 3 9 0 5 6 | 36 ..
 //                a case: a name without spaces, then s, t, the sheet's cost, its setting and its belts, all in a row; and, where the
 //                sheet is to differ from the one of these, a bar, its size in bytes and the records in which it differs
+//   name .. + 3 1
+//                a case with a lock: its mask and its values
 //
 // A record is an index and six fields.
 use crate::answers;
@@ -14,6 +16,7 @@ use crate::sheets;
 use plan::bounds::FIELD_LIMIT;
 use plan::bounds::MAX_STEPS;
 use plan::bounds::RECORD_BYTES;
+use route::path::Lock;
 use route::path::Trip;
 use test_cases::lines;
 use test_cases::plans;
@@ -62,6 +65,16 @@ fn put_belts(sheet: &mut Bytes, text: &[u8], at: usize) -> usize {
     }
 }
 
+// The lock behind the plus of the line; without a plus no mode is locked.
+fn lock_of(text: &[u8], at: usize) -> Lock {
+    let mask = lines::next_number(text, lines::behind(text, at, b'+'));
+    let values = lines::next_number(text, mask.next);
+    Lock {
+        mask: mask.value,
+        values: values.value,
+    }
+}
+
 // Runs the case whose line begins at `at`.
 fn case(state: State, text: &[u8], at: usize) {
     let asked = state.asked;
@@ -87,6 +100,7 @@ fn case(state: State, text: &[u8], at: usize) {
     let trip = Trip {
         s: s.value,
         t: t.value,
+        lock: lock_of(text, t.next),
     };
     answers::answer(asked, plan, trip, &sheet, size);
 }

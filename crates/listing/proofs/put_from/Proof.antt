@@ -1,5 +1,5 @@
--- `put_from`: each pair is of junctions of the plan, and the junctions left are fewer at each turn. Assumes nothing.
-use mathlib.Core.Path.{_≡_, ap}
+-- `put_from`: each pair is of junctions of the plan, no mode is locked, and the junctions left are fewer at each turn. Assumes nothing.
+use mathlib.Core.Path.{_≡_, _∙_, ap}
 use mathlib.Core.Bool.{false, not}
 use Prim.Native.Nat.{ℕ, _+_, _-_, _≤_}
 use native.Mathlib.Omega.{arith}
@@ -8,6 +8,8 @@ use Rattle.plan.specs.Lists.{within}
 use Rattle.plan.specs.Plan.{Plan, planOf}
 use Rattle.plan.proofs.Lists.{and-is, is-within}
 use Rattle.route.specs.Routes.{wrongEnds}
+use Rattle.route.specs.Permission.{wrongLock}
+use Rattle.route.proofs.RulesLock.{no-lock}
 use Rattle.listing.proofs.put_from.Statement.{statement}
 use Rattle.listing.proofs.put_from.Tie as tie
 
@@ -20,6 +22,9 @@ abbrev μ-loop : tie.MeasureT-loop
 loop-holds : tie.Need-loop-holds Inv-loop μ-loop
 loop-holds c = search needs
 
+no-lock-requires : tie.Need-no-lock-requires Inv-loop μ-loop
+no-lock-requires c κs = search needs
+
 add-t : tie.Need-add-t Inv-loop μ-loop
 add-t c = search needs
 
@@ -31,13 +36,14 @@ ends p s t a b c d =
 
 put-pair-requires : tie.Need-put-pair-requires Inv-loop μ-loop
 put-pair-requires c κs =
-    let turn = c .before in
+    let turn = c .before .before in
     let loop = turn .before .loop in
     let start = turn .before .before .before .before in
     let ((b, prepared, last), one) = start .pre in
     let inv = loop .inv in
     let left = turn .loop-test .taken in
-    (b, prepared, ends (planOf b) (start .args .s) (loop .t + 1) one (omega arith) (omega arith) (omega arith))
+    let unlocked = ap (wrongLock (planOf b)) (c .no-lock .ensures) ∙ no-lock (planOf b) in
+    (b, prepared, ends (planOf b) (start .args .s) (loop .t + 1) one (omega arith) (omega arith) (omega arith), unlocked)
 
 loop-less : tie.Need-loop-less Inv-loop μ-loop
 loop-less c = search needs
@@ -51,4 +57,4 @@ returns c = search needs
 pub put-from-spec : {M : Type 1} → statement M
 put-from-spec =
     tie.close
-    (tie.spec Inv-loop μ-loop loop-holds add-t put-pair-requires loop-less loop-again returns)
+    (tie.spec Inv-loop μ-loop loop-holds add-t no-lock-requires put-pair-requires loop-less loop-again returns)

@@ -10,7 +10,7 @@ slice-aggregate-find c = search needs
 find-requires : tie.Need-find-requires
 find-requires c κs =
     let start = c .before .before .before in
-    ((start .pre .0, record { prepared = start .pre .1; junctions = start .pre .2 }), omega arith)
+    ((start .pre .0, record { prepared = start .pre .1; junctions = start .pre .2; lock = start .pre .3 }), omega arith)
 
 slice-aggregate-put-query : tie.Need-slice-aggregate-put-query
 slice-aggregate-put-query c = search needs

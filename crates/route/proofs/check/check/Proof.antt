@@ -1,4 +1,4 @@
--- `check::check` meets its contract: line by line, in the order of the table. Assumes nothing.
+-- `check::check` meets its contract: line by line, in the order of the list. Assumes nothing.
 use mathlib.Core.Path.{_≡_, sym, _∙_, ap}
 use mathlib.Core.Bool.{true, false}
 use native.Mathlib.Omega.{arith}
@@ -10,12 +10,12 @@ use Rattle.plan.specs.Claims.{Unbroken}
 use Rattle.plan.specs.Reading.{Accepted}
 use Rattle.plan.proofs.LineNumbers.{nonzero}
 use Rattle.route.specs.declared.sheet.Sheet.{Sheet}
-use Rattle.route.specs.Refusals.{Case, planTrip, tripLines}
+use Rattle.route.specs.Refusals.{PlanTrip, Case, planTrip, broken8, tripLines}
 use Rattle.route.specs.Values.{idsOf, caseOf}
 use Rattle.route.specs.Sheets.{inForm, beltsOn}
 use Rattle.route.proofs.RouteIndices.{ids-packed}
 use Rattle.route.proofs.SheetReading.{form-is, few-belts}
-use Rattle.route.proofs.SheetLines.{ends-trip, trip-plan, trip-8, trip-refused, no-form, content-refused, ends-wrong, ends-fine}
+use Rattle.route.proofs.SheetLines.{fine-trip, trip-plan, trip-8, trip-15, trip-refused, no-form, content-refused, ends-wrong, ends-fine, lock-wrong, lock-right}
 use Rattle.route.proofs.check.check.Statement.{statement}
 use Rattle.route.proofs.check.check.Tie as tie
 
@@ -45,36 +45,58 @@ enum-told c = search needs
 accepted : (c : tie.After-enum-told) → Accepted (case (c .before .before .before .before .before) .plan)
 accepted c = record { unrefused = sym (c .before .before .check .ensures) ∙ ap numberOf (c .enum-told .given .1) }
 
+-- where all was asked for
+abbrev begun : tie.After-enum-told → tie.Start
+begun c = c .before .before .before .before .before
+
+-- the plan and the trip of the case
+abbrev trip : tie.After-enum-told → PlanTrip
+trip c = planTrip (case (begun c))
+
 wrong-ends-requires : tie.Need-wrong-ends-requires
 wrong-ends-requires c κs = accepted c
 
 returns-2 : tie.Need-returns-2
 returns-2 c =
     let past = c .before .before in
-    let start = past .before .before .before .before .before in
-    let k = planTrip (case start) in
-    sym (trip-refused (case start) 8 (λ z. omega arith) (trip-8 k (accepted past) (ends-wrong k (sym (c .before .wrong-ends .ensures) ∙ c .if1 .taken))))
+    sym (trip-refused (case (begun past)) 8 (λ z. omega arith)
+    (trip-8 (trip past) (accepted past) (ends-wrong (trip past) (sym (c .before .wrong-ends .ensures) ∙ c .if1 .taken))))
 
 -- past the test of s and t
-fine : (c : tie.Else1) → Unbroken tripLines (planTrip (case (c .before .before .before .before .before .before .before)))
-fine c =
-    let k = planTrip (case (c .before .before .before .before .before .before .before)) in
-    ends-trip k (accepted (c .before .before)) (ends-fine k (sym (c .before .wrong-ends .ensures) ∙ c .if1 .left))
+ends : (c : tie.Else1) → broken8 (trip (c .before .before)) ≡ false
+ends c = ends-fine (trip (c .before .before)) (sym (c .before .wrong-ends .ensures) ∙ c .if1 .left)
 
-in-form-requires : tie.Need-in-form-requires
-in-form-requires c κs = search needs
+wrong-lock-requires : tie.Need-wrong-lock-requires
+wrong-lock-requires c κs = accepted (c .before .before)
 
 returns-3 : tie.Need-returns-3
 returns-3 c =
     let at = c .before .before in
     let past = at .before .before in
-    let start = past .before .before .before .before .before in
-    let this = sym (c .before .in-form .ensures) ∙ not-true (c .before .in-form .result) (c .if2 .taken) in
-    sym (no-form (case start) (fine at) this)
+    sym (trip-refused (case (begun past)) 15 (λ z. omega arith)
+    (trip-15 (trip past) (accepted past) (ends at) (lock-wrong (trip past) (sym (c .before .wrong-lock .ensures) ∙ c .if2 .taken))))
+
+-- past the test of the lock
+abbrev asked : tie.Else2 → tie.After-enum-told
+asked c = c .before .before .before .before
+
+fine : (c : tie.Else2) → Unbroken tripLines (trip (asked c))
+fine c =
+    let lock = lock-right (trip (asked c)) (sym (c .before .wrong-lock .ensures) ∙ c .if2 .left) in
+    fine-trip (trip (asked c)) (accepted (asked c)) (ends (c .before .before)) lock
+
+in-form-requires : tie.Need-in-form-requires
+in-form-requires c κs = search needs
+
+returns-4 : tie.Need-returns-4
+returns-4 c =
+    let at = c .before .before in
+    let this = sym (c .before .in-form .ensures) ∙ not-true (c .before .in-form .result) (c .if3 .taken) in
+    sym (no-form (case (begun (asked at))) (fine at) this)
 
 -- past the test of the form
-form : (c : tie.Else2) → inForm (case (c .before .before .before .before .before .before .before .before .before) .sheet) ≡ true
-form c = sym (c .before .in-form .ensures) ∙ not-false (c .before .in-form .result) (c .if2 .left)
+form : (c : tie.Else3) → inForm (case (begun (asked (c .before .before))) .sheet) ≡ true
+form c = sym (c .before .in-form .ensures) ∙ not-false (c .before .in-form .result) (c .if3 .left)
 
 read-requires : tie.Need-read-requires
 read-requires c κs = form c
@@ -82,16 +104,17 @@ read-requires c κs = form c
 check-content-requires : tie.Need-check-content-requires
 check-content-requires c κs =
     let at = c .before .before .before in
-    let past = at .before .before in
-    let start = past .before .before .before .before .before in
-    let count : c .read .result .route .count ≡ length (beltsOn (start .args .h .now)) = ap (λ (v : Sheet). v .route .count) (c .read .ensures) in
-    (accepted past, sym (at .before .wrong-ends .ensures) ∙ at .if1 .left, omega (arith, few-belts (start .args .h .now) (form-is (start .args .h .now) (form (c .before)))))
+    let past = asked at in
+    let h = begun past .args .h .now in
+    let ends-are = sym (at .before .before .before .wrong-ends .ensures) ∙ at .before .before .if1 .left in
+    let lock-is = sym (at .before .wrong-lock .ensures) ∙ at .if2 .left in
+    let count : c .read .result .route .count ≡ length (beltsOn h) = ap (λ (v : Sheet). v .route .count) (c .read .ensures) in
+    (accepted past, ends-are, lock-is, omega (arith, few-belts h (form-is h (form (c .before)))))
 
-returns-4 : tie.Need-returns-4
-returns-4 c =
+returns-5 : tie.Need-returns-5
+returns-5 c =
     let at = c .before .before .before .before in
-    let past = at .before .before in
-    let start = past .before .before .before .before .before in
+    let start = begun (asked at) in
     let h = start .args .h .now in
     let formed = form (c .before .before) in
     let read = c .before .read .ensures in
@@ -109,8 +132,10 @@ check-spec =
     enum-told
     wrong-ends-requires
     returns-2
-    in-form-requires
+    wrong-lock-requires
     returns-3
+    in-form-requires
+    returns-4
     read-requires
     check-content-requires
-    returns-4)
+    returns-5)

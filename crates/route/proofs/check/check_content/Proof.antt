@@ -1,6 +1,6 @@
 -- `check::check_content` meets its contract: the first of the four lines that fails gives its number. Assumes nothing.
 use mathlib.Core.Path.{_≡_, sym, _∙_, ap}
-use mathlib.Core.Bool.{Bool, true, not, _&&_}
+use mathlib.Core.Bool.{Bool, true, false, not, _&&_}
 use Prim.Native.Nat.{ℕ, _^_}
 use lib.Dec.{eqb, ltb}
 use borrow.Author.Needs.{needs}
@@ -8,9 +8,9 @@ use borrow.Author.Tests.{eq-eqb, ne-eqb, not-true, not-false}
 use Rattle.plan.specs.Lists.{all, mem}
 use Rattle.plan.specs.Plan.{planOf, indicesOf}
 use Rattle.route.specs.Routes.{connects, cost}
-use Rattle.route.specs.Permission.{passes, termsOf, works}
+use Rattle.route.specs.Permission.{passes, allMet, agrees, termsOf, works}
 use Rattle.route.specs.Values.{idsOf, Known, routeIn}
-use Rattle.route.specs.Inner.{sheetBy}
+use Rattle.route.specs.Inner.{sheetBy, contentRefusal}
 use Rattle.route.proofs.RouteIndices.{known-belts, ends-junctions}
 use Rattle.route.proofs.check.check_content.Statement.{statement}
 use Rattle.route.proofs.check.check_content.Tie as tie
@@ -51,7 +51,7 @@ known : (c : tie.Else1) → Known (c .before .before .before .before .args .p .n
 known c =
     let start = c .before .before .before .before in
     record {
-      few = start .pre .2;
+      few = start .pre .3;
       belts = known-belts (start .pre .0) (idsOf (start .args .sheet .route)) (are-known c);
     }
 
@@ -109,30 +109,65 @@ sums c =
     let sum = c .before .before .cost in
     ap (λ (n : ℕ). eqb n (sheet .cost)) (sym (sum .ensures .0)) ∙ eq-eqb (sum .result) (sheet .cost) (c .if4 .left)
 
-met-by-requires : tie.Need-met-by-requires
-met-by-requires c κs =
-    let at = c .before .before .before in
-    (at .before .before .before .before .before .before .before .before .pre .0, known (at .before .before .before .before))
+-- of a test that came behind the cost: where it was, and where all was asked for
+abbrev tested : tie.Else4 → tie.Else3
+tested c = c .before .before .before
+
+abbrev begun : tie.Else4 → tie.Start
+begun c = tested c .before .before .before .before .before .before .before .before
+
+-- past the test of the cost line 14 decides
+by-14 : (c : tie.Else4) (t : Bool) → ruled (begun c) ≡ t
+    → sheetBy false false false (not t) ≡ contentRefusal (planOf (begun c .args .p .now)) (begun c .args .trip) (begun c .args .sheet)
+by-14 c t e =
+    let past = fits (tested c .before .before) in
+    let way = joins (tested c) in
+    let total = sums c in
+    sym (λ i. sheetBy (not (past i)) (not (way i)) (not (total i)) (not (e i)))
+
+-- whether the setting agrees with the lock, and whether the rules are met
+abbrev agreed : tie.Start → Bool
+agreed c = agrees (planOf (c .args .p .now) .modes) (c .args .trip .lock) (c .args .sheet .setting)
+
+abbrev rulesMet : tie.Start → Bool
+rulesMet c = allMet (planOf (c .args .p .now) .rules) (passes (routeIn (c .args .p .now) (c .args .sheet .route))) (c .args .sheet .setting)
+
+agrees-requires : tie.Need-agrees-requires
+agrees-requires c κs = let start = begun c in (planOf (start .args .p .now), start .pre .2)
+
+-- what the test of the lock says
+agreement : (c : tie.After-agrees) → c .agrees .result ≡ agreed (begun (c .before))
+agreement c = let start = begun (c .before) in c .agrees .ensures (planOf (start .args .p .now)) (start .pre .2)
 
 returns-5 : tie.Need-returns-5
 returns-5 c =
-    let sum = c .before .before in
-    let at = sum .before .before .before in
-    let past = fits (at .before .before) in
-    let way = joins at in
-    let total = sums sum in
-    let this = sym (c .before .met-by .ensures) ∙ not-true (c .before .met-by .result) (c .if5 .taken) in
-    sym (λ i. sheetBy (not (past i)) (not (way i)) (not (total i)) (not (this i)))
+    let at = c .before .before in
+    let start = begun at in
+    let this = sym (agreement (c .before)) ∙ not-true (c .before .agrees .result) (c .if5 .taken) in
+    by-14 at false (ap (λ (t : Bool). t && rulesMet start) this)
+
+met-by-requires : tie.Need-met-by-requires
+met-by-requires c κs =
+    let at = c .before .before in
+    (begun at .pre .0, known (tested at .before .before .before .before))
+
+-- past the test of the lock
+agreed-is : (c : tie.Else5) → agreed (begun (c .before .before)) ≡ true
+agreed-is c = sym (agreement (c .before)) ∙ not-false (c .before .agrees .result) (c .if5 .left)
 
 returns-6 : tie.Need-returns-6
 returns-6 c =
-    let sum = c .before .before in
-    let at = sum .before .before .before in
-    let past = fits (at .before .before) in
-    let way = joins at in
-    let total = sums sum in
-    let this = sym (c .before .met-by .ensures) ∙ not-false (c .before .met-by .result) (c .if5 .left) in
-    sym (λ i. sheetBy (not (past i)) (not (way i)) (not (total i)) (not (this i)))
+    let at = c .before .before .before .before in
+    let lock = agreed-is (c .before .before) in
+    let this = sym (c .before .met-by .ensures) ∙ not-true (c .before .met-by .result) (c .if6 .taken) in
+    by-14 at false (λ i. lock i && this i)
+
+returns-7 : tie.Need-returns-7
+returns-7 c =
+    let at = c .before .before .before .before in
+    let lock = agreed-is (c .before .before) in
+    let this = sym (c .before .met-by .ensures) ∙ not-false (c .before .met-by .result) (c .if6 .left) in
+    by-14 at true (λ i. lock i && this i)
 
 pub check-content-spec : {M : Type 1} → statement M
 check-content-spec =
@@ -146,6 +181,8 @@ check-content-spec =
     returns-3
     cost-requires
     returns-4
-    met-by-requires
+    agrees-requires
     returns-5
-    returns-6)
+    met-by-requires
+    returns-6
+    returns-7)

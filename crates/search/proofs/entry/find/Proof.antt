@@ -39,7 +39,7 @@ write-best-requires c κs =
     let start = begun ran in
     let (b, ready) = start .pre .0 in
     let (turn, valid) = ran .run .ensures b ready in
-    ((b, listed start ready, valid), found-held b (start .args .query) (ran .run .result) turn (told .enum-told .given .1), start .pre .1)
+    ((b, listed start ready, valid, ready .lock), found-held b (start .args .query) (ran .run .result) turn (told .enum-told .given .1), start .pre .1)
 
 enum-told-2 : tie.Need-enum-told-2
 enum-told-2 c = search needs
@@ -62,9 +62,9 @@ returns c =
     let out = start .args .out .now in
     λ b ready.
     let (turn, valid) = ran .run .ensures b ready in
-    subst (Told (replyOf (wrote .write-best .result)) out (wrote .write-best .last .1 .1 .1 .1 .0))
+    subst (Told (replyOf (wrote .write-best .result)) out (wrote .write-best .last .1 .1 .1 .1 .1 .0))
     (turn-found b (start .args .query) (ran .run .result) turn out (told .enum-told .given .1))
-    (wrote .write-best .ensures b (listed start ready) valid)
+    (wrote .write-best .ensures b (listed start ready) valid (ready .lock))
 
 returns-2 : tie.Need-returns-2
 returns-2 c =

@@ -57,10 +57,11 @@ ready c =
     record {
       prepared = prepared (start .pre .0) (bytes (then .before .before)) (maxNamed + 256) 256 fits (few then) words numbers places clauses;
       junctions = start .pre .1;
+      lock = start .pre .2;
     }
 
 find-requires : tie.Need-find-requires
-find-requires c κs = let start = begun (small (made c .before)) in ((start .args .p .now, ready c), start .pre .2)
+find-requires c κs = let start = begun (small (made c .before)) in ((start .args .p .now, ready c), start .pre .3)
 
 same-length : tie.Need-same-length
 same-length c = search needs
@@ -111,10 +112,11 @@ ready-2 c =
     record {
       prepared = prepared (start .pre .0) (bytes (other .before .before)) (maxNamed + maxRecords) maxRecords fits rules words numbers places clauses;
       junctions = start .pre .1;
+      lock = start .pre .2;
     }
 
 find-requires-2 : tie.Need-find-requires-2
-find-requires-2 c κs = let start = began (large (filled c .before)) in ((start .args .p .now, ready-2 c), start .pre .2)
+find-requires-2 c κs = let start = began (large (filled c .before)) in ((start .args .p .now, ready-2 c), start .pre .3)
 
 same-length-2 : tie.Need-same-length-2
 same-length-2 c = search needs

@@ -1,14 +1,14 @@
 -- `entry::write_best` meets its contract: the sheet is that of the best route, its cost and its lowest setting. Assumes nothing.
 use mathlib.Core.Path.{_≡_, _∙_, ap}
 use Prim.Native.Nat.{ℕ, _<_}
-use mathlib.Core.Bool.{Bool}
+use mathlib.Core.Bool.{Bool, false}
 use mathlib.Core.List.{List}
 use native.Mathlib.Omega.{arith}
 use borrow.Author.Needs.{needs}
 use Rattle.plan.specs.Plan.{planOf}
 use Rattle.route.specs.declared.path.Route.{Route}
 use Rattle.route.specs.Routes.{cost}
-use Rattle.route.specs.Permission.{planTerms, lowest}
+use Rattle.route.specs.Permission.{wrongLock, termsOf, lowest}
 use Rattle.route.specs.Values.{idsOf, routeIn, gatheredIn, maskOf, hasBelt}
 use Rattle.route.proofs.RouteIndices.{known-cheap}
 use Rattle.route.proofs.RulesNamed.{route-placeable, lowest-mask}
@@ -19,12 +19,15 @@ use Rattle.search.proofs.AnswerReply.{written-best}
 use Rattle.search.proofs.entry.write_best.Statement.{statement}
 use Rattle.search.proofs.entry.write_best.Tie as tie
 
--- the plan b is what the arrays are of, and the search is one of it
+-- the plan b is what the arrays are of, the search is one of it, and the lock is one of its modes
 abbrev Given : tie.Start → List ℕ → Type 0
-Given c b = Listed b (c .args .numbers .now) (c .args .places .now) (c .args .clauses .now) × Valid b (c .args .search)
+Given c b =
+    Listed b (c .args .numbers .now) (c .args .places .now) (c .args .clauses .now)
+    × Valid b (c .args .search)
+    × (wrongLock (planOf b) (c .args .trip .lock) ≡ false)
 
 given : (c : tie.Start) → Given c (c .pre .0 .0)
-given c = (c .pre .0 .1, c .pre .0 .2)
+given c = (c .pre .0 .1, c .pre .0 .2, c .pre .0 .3)
 
 element-copy-out-wide : tie.Need-element-copy-out-wide
 element-copy-out-wide c = search needs
@@ -39,7 +42,7 @@ begun c = c .before .before .before .before .before
 on-route-requires : tie.Need-on-route-requires
 on-route-requires c κs =
     let start = begun c in
-    let (listed, valid) = given start in
+    let (listed, valid, lock) = given start in
     route-placeable (listed .ruled .accepted) (start .args .search .best) (valid .known) (listed .placed)
 
 module _ (c : tie.After-on-route) {b : List ℕ} (h : Given (begun (c .before)) b) where
@@ -57,7 +60,7 @@ lowest-setting-requires : tie.Need-lowest-setting-requires
 lowest-setting-requires c κs =
     let start = begun (c .before) in
     let h = given start in
-    (start .pre .0 .0, h .0 .ruled, modes-are c h)
+    (start .pre .0 .0, h .0 .ruled, modes-are c h, h .2)
 
 setting-of-requires : tie.Need-setting-of-requires
 setting-of-requires c κs = search needs
@@ -69,7 +72,7 @@ price c {b} h = let v = c .args .search in h .1 .bound-is ∙ ap (λ (t : Bool).
 write-requires : tie.Need-write-requires
 write-requires c κs =
     let start = begun (c .before .before .before .before) in
-    let (listed, valid) = given start in
+    let (listed, valid, lock) = given start in
     let known = valid .known in
     let low = known-cheap (listed .ruled .accepted) (listed .bytes) (start .args .search .best) known in
     let same = price start (given start) in
@@ -88,12 +91,12 @@ returns c =
     let gathered = told .before in
     let start = begun (gathered .before) in
     let search = start .args .search in
-    λ b listed valid.
-    let h : Given start b = (listed, valid) in
-    let setting = told .lowest-setting .ensures b (listed .ruled) (modes-are gathered h)
-    ∙ ap (λ (m : ℕ). lowest (planTerms (planOf b)) (hasBelt b m)) (mask gathered h)
-    ∙ lowest-mask (listed .ruled .accepted) (search .best) (valid .known) in
-    written-best (listed .ruled .accepted) search (valid .known) _ _ (written .write .result) (start .args .out .now) _
+    λ b listed valid lock.
+    let h : Given start b = (listed, valid, lock) in
+    let setting = told .lowest-setting .ensures b (listed .ruled) (modes-are gathered h) lock
+    ∙ ap (λ (m : ℕ). lowest (termsOf (planOf b) (start .args .trip)) (hasBelt b m)) (mask gathered h)
+    ∙ lowest-mask (listed .ruled .accepted) (start .args .trip) (search .best) (valid .known) in
+    written-best (listed .ruled .accepted) (start .args .trip) search (valid .known) _ _ (written .write .result) (start .args .out .now) _
     (price start h)
     (set .setting-of .ensures ∙ ap orZero setting)
     (written .write .ensures .0)

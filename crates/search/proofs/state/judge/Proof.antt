@@ -1,11 +1,13 @@
 -- `state::judge` meets its contract: each answer by the tests that led there. Assumes nothing.
 use mathlib.Core.Path.{_≡_, sym, _∙_, ap}
+use mathlib.Core.Bool.{false}
 use mathlib.Core.Option.{Option, none}
 use Prim.Native.Nat.{ℕ}
 use mathlib.Core.List.{List}
 use borrow.Author.Needs.{needs}
 use Rattle.plan.specs.declared.named.Place.{Place}
 use Rattle.plan.specs.Plan.{planOf, named}
+use Rattle.route.specs.Permission.{wrongLock}
 use Rattle.route.specs.Values.{settingIn, subproblemIn, hasBelt, Ruled}
 use Rattle.search.specs.declared.state.Judged.{Judged}
 use Rattle.search.specs.Branching.{pickOf}
@@ -15,12 +17,15 @@ use Rattle.search.proofs.PrepareNumbers.{numbers-modes}
 use Rattle.search.proofs.state.judge.Statement.{statement}
 use Rattle.search.proofs.state.judge.Tie as tie
 
--- the plan b is what the arrays are of
+-- the plan b is what the arrays are of, and the lock is one of its modes
 abbrev Given : tie.Start → List ℕ → Type 0
-Given c b = Ruled b (c .args .clauses .now) × (c .args .numbers .now ≡ numbersOf (planOf b))
+Given c b =
+    Ruled b (c .args .clauses .now)
+    × (c .args .numbers .now ≡ numbersOf (planOf b))
+    × (wrongLock (planOf b) (c .args .query .trip .lock) ≡ false)
 
 given : (c : tie.Start) → Given c (c .pre .0)
-given c = (c .pre .1, c .pre .2)
+given c = (c .pre .1, c .pre .2, c .pre .3)
 
 -- what is asked for
 abbrev wanted : tie.Start → List ℕ → Judged
@@ -45,13 +50,13 @@ modes-are : (c : tie.After-wide) {b : List ℕ} → Given (begun c) b → c .wid
 modes-are c h = c .wide .ensures ∙ ap modesAt (h .1) ∙ numbers-modes (h .0 .accepted)
 
 lowest-setting-requires : tie.Need-lowest-setting-requires
-lowest-setting-requires c κs = let h = given (begun c) in (begun c .pre .0, h .0, modes-are c h)
+lowest-setting-requires c κs = let h = given (begun c) in (begun c .pre .0, h .0, modes-are c h, h .2)
 
 -- it goes by the setting
 by-setting : (c : tie.After-lowest-setting) {b : List ℕ} → Given (begun (c .before)) b → (o : Option ℕ) → settingIn (c .lowest-setting .result) ≡ o
     → wanted (begun (c .before)) b ≡ testedAs (place (begun (c .before)) b) o
 by-setting c {b} h o e =
-    let told = c .lowest-setting .ensures b (h .0) (modes-are (c .before) h) in
+    let told = c .lowest-setting .ensures b (h .0) (modes-are (c .before) h) (h .2) in
     ap (testedAs (place (begun (c .before)) b)) (sym told ∙ e)
 
 enum-known-setting : tie.Need-enum-known-setting
@@ -70,7 +75,7 @@ enum-told-2 : tie.Need-enum-told-2
 enum-told-2 c = search needs
 
 returns : tie.Need-returns
-returns c = λ b ruled numbers. sym (by-setting (c .before .before .before) (ruled, numbers) _ (ap settingIn (c .before .setting .given .1)))
+returns c = λ b ruled numbers lock. sym (by-setting (c .before .before .before) (ruled, numbers, lock) _ (ap settingIn (c .before .setting .given .1)))
 
 -- no setting works, so it goes by the belt picked
 by-place : (c : tie.After-picked) {b : List ℕ} → Given (begun (c .before .before .before .before)) b → (q : Place) → c .picked .result ≡ q
@@ -80,10 +85,10 @@ by-place c {b} h q e =
     ∙ sym (by-setting (c .before .before .before) h none (ap settingIn (c .before .enum-told .given .1)))
 
 returns-2 : tie.Need-returns-2
-returns-2 c = λ b ruled numbers. by-place (c .before .before .before) (ruled, numbers) _ (c .before .place .given .1)
+returns-2 c = λ b ruled numbers lock. by-place (c .before .before .before) (ruled, numbers, lock) _ (c .before .place .given .1)
 
 returns-3 : tie.Need-returns-3
-returns-3 c = λ b ruled numbers. by-place (c .before .before) (ruled, numbers) _ (c .enum-told2 .given .1)
+returns-3 c = λ b ruled numbers lock. by-place (c .before .before) (ruled, numbers, lock) _ (c .enum-told2 .given .1)
 
 pub judge-spec : {M : Type 1} → statement M
 judge-spec =

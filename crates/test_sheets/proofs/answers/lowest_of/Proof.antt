@@ -45,7 +45,7 @@ lowest-setting-requires c κs =
     let decoded = counted .before .before .before .before in
     let start = begun decoded in
     let ok = start .pre .0 in
-    (start .args .p .now, ruled-lent ok maxRecords (records-few ok .0) (decoded .decode .ensures), counted .modes .ensures)
+    (start .args .p .now, ruled-lent ok maxRecords (records-few ok .0) (decoded .decode .ensures), counted .modes .ensures, start .pre .2)
 
 returns : tie.Need-returns
 returns c = search needs

@@ -1,4 +1,4 @@
--- `print_belts`: belts that are the plan's make the route known.
+-- `print_belts`: belts that are the plan's make the route known, and a lock that is not wrong is one of the plan's modes.
 use borrow.Author.Needs.{needs}
 use borrow.Author.Tests.{not-false}
 use mathlib.Core.Path.{sym, _∙_}
@@ -24,20 +24,34 @@ write-all-requires c κs = search needs
 returns : tie.Need-returns
 returns c = search needs
 
+wrong-lock-requires : tie.Need-wrong-lock-requires
+wrong-lock-requires c κs = c .before .before .before .pre .0
+
+slice-aggregate-write-all-2 : tie.Need-slice-aggregate-write-all-2
+slice-aggregate-write-all-2 c = search needs
+
+write-all-requires-2 : tie.Need-write-all-requires-2
+write-all-requires-2 c κs = search needs
+
+returns-2 : tie.Need-returns-2
+returns-2 c = search needs
+
 print-setting-requires : tie.Need-print-setting-requires
 print-setting-requires c κs =
-    let start = c .before .before .before in
+    let at = c .before .before in
+    let start = at .before .before .before in
     let known : ℕ → Bool = λ (e : ℕ). mem e (indicesOf (planOf (start .args .p .now) .belts)) in
-    let ours = sym (c .before .are-belts .ensures) ∙ not-false (c .before .are-belts .result) (c .if1 .left) in (
+    let ours = sym (at .before .are-belts .ensures) ∙ not-false (at .before .are-belts .result) (at .if1 .left) in (
       start .pre .0,
       record {
         few = start .pre .1;
         belts = λ e m. index-belt (start .pre .0) e (all-in known (idsOf (start .args .r)) ours m);
       },
+      sym (c .before .wrong-lock .ensures) ∙ c .if2 .left,
     )
 
-returns-2 : tie.Need-returns-2
-returns-2 c = search needs
+returns-3 : tie.Need-returns-3
+returns-3 c = search needs
 
 pub print-belts-spec : {M : Type 1} → statement M
 print-belts-spec =
@@ -47,5 +61,9 @@ print-belts-spec =
     slice-aggregate-write-all
     write-all-requires
     returns
+    wrong-lock-requires
+    slice-aggregate-write-all-2
+    write-all-requires-2
+    returns-2
     print-setting-requires
-    returns-2)
+    returns-3)

@@ -320,14 +320,14 @@ module _ (c : tie.Then4) {b : List ℕ} (h : Given (start (met (c .before))) b) 
 judge-requires : tie.Need-judge-requires
 judge-requires c κs =
     let h = given (met (c .before)) in
-    (plan (met (c .before)), prepared-ruled (h .0 .prepared), h .0 .prepared .numbered)
+    (plan (met (c .before)), prepared-ruled (h .0 .prepared), h .0 .prepared .numbered, h .0 .lock)
 
 settles-better : (c : tie.After-judge) {b : List ℕ} (h : Given (start (met (c .before .before))) b) → Settled (c .before .before) h (c .judge .result)
 settles-better c {b} h =
     let at = c .before .before in
     let from = met at in
     let ruled = prepared-ruled (h .0 .prepared) in
-    let is = c .judge .ensures b ruled (h .0 .prepared .numbered) in
+    let is = c .judge .ensures b ruled (h .0 .prepared .numbered) (h .0 .lock) in
     let same = judged-same (ruled .accepted) (start from .args .query) (newestOf (now from)) (summed at .relaxed-route .result .named) (route at h) (better-on (c .before) h) in
     subst (Settled at h) (sym (is ∙ same)) (subst (λ (t : Bool). Settled at h (judgedBy t (judged at h))) (c .before .if4 .taken) (settles at h))
 
