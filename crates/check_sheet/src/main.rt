@@ -1,7 +1,7 @@
-// Checks a route sheet against a depot plan: `check_sheet PLAN S T SHEET [MASK VALUES]` prints `accepted` where the sheet's belts are a
-// permitted route from S to T under its setting, which agrees with the lock, and its cost is theirs, or `refused n: ..` with the number of the first line of the refusal table that is broken, and
-// the table's words for it. PLAN may be - for standard input. Where the arguments or a file are not as they should be, standard error says what
-// is wrong, and nothing else is done.
+// Checks a route sheet against a depot plan: `check_sheet PLAN S T SHEET [MASK VALUES]` prints `accepted` where the sheet's belts are a permitted route
+// from S to T under its setting, which agrees with the lock, and its cost is theirs, or `refused n: ..` with the number of the first broken line of
+// the check's list, and the table's words for it. PLAN may be - for standard input. Where the arguments or a file are not as they should be, standard
+// error says what is wrong, and nothing else is done.
 //
 //   usage   how the program is used
 mod usage;

@@ -13,7 +13,7 @@ use Rattle.plan.specs.Records.{recordOf, rowOf, fits, linksAt, links}
 use Rattle.plan.specs.Plan.{Plan, planOf, named, indicesOf}
 use Rattle.plan.specs.Refusals.{broken1, broken2, broken3, broken4, broken5, broken6, broken7}
 use Rattle.plan.specs.Examples.{planP}
-use Rattle.route.specs.Lcsp.{_givenAll_}
+use Rattle.route.specs.Lcsp.{Formula, _givenAll_}
 use Rattle.route.specs.Routes.{before, routes, beltsByIndex}
 use Rattle.route.specs.declared.path.Trip.{Trip}
 use Rattle.route.specs.Permission.{passes, noLock, termsOf, lowest}
@@ -67,12 +67,16 @@ P-4-6 : lowestOf planP (4 ∷ 6 ∷ []) ≡ none
 unfolding planP planOf
 P-4-6 = refl
 
+-- what conditioning by the joint assignment of these belts and this setting leaves of the formula
+abbrev leaves : List ℕ → Trip → List ℕ → ℕ → Formula
+leaves b trip es σ = instanceOf (planOf b) trip .formula givenAll joint (planOf b) (map arcOf (beltsByIndex (planOf b) es)) σ
+
 -- conditioning by the joint assignment of belt 5 and setting 0 leaves nothing; that of belts 4 and 6 leaves the empty clause
-P-5-leaves : instanceOf (planOf planP) from-1-to-3 .formula givenAll joint (planOf planP) (map arcOf (beltsByIndex (planOf planP) (5 ∷ []))) 0 ≡ []
+P-5-leaves : leaves planP from-1-to-3 (5 ∷ []) 0 ≡ []
 unfolding planP planOf
 P-5-leaves = refl
 
-P-4-6-leaves : instanceOf (planOf planP) from-1-to-3 .formula givenAll joint (planOf planP) (map arcOf (beltsByIndex (planOf planP) (4 ∷ 6 ∷ []))) 1 ≡ [] ∷ []
+P-4-6-leaves : leaves planP from-1-to-3 (4 ∷ 6 ∷ []) 1 ≡ [] ∷ []
 unfolding planP planOf
 P-4-6-leaves = refl
 
@@ -99,8 +103,7 @@ E10-4-6-off : lowestIn planE10 (locked-1-to-3 1 0) (4 ∷ 6 ∷ []) ≡ none
 unfolding planE10 planOf
 E10-4-6-off = refl
 
-E10-4-6-off-leaves :
-    instanceOf (planOf planE10) (locked-1-to-3 1 0) .formula givenAll joint (planOf planE10) (map arcOf (beltsByIndex (planOf planE10) (4 ∷ 6 ∷ []))) 1 ≡ [] ∷ []
+E10-4-6-off-leaves : leaves planE10 (locked-1-to-3 1 0) (4 ∷ 6 ∷ []) 1 ≡ [] ∷ []
 unfolding planE10 planOf
 E10-4-6-off-leaves = refl
 
