@@ -4,6 +4,7 @@
 //   arguments   the words that a program is started with
 //   files       files of bytes that are read
 //   status      which file a descriptor is open on
+//   saving      files that are written whole or not at all
 //   sheets      the file that a route sheet is written to, so that nothing is lost
 //   paths       names of files, put together and followed along links
 //   refusals    the words of the refusal table
@@ -15,6 +16,7 @@ pub mod decimal;
 pub mod files;
 mod paths;
 pub mod refusals;
+mod saving;
 pub mod sheets;
 mod status;
 pub mod version;

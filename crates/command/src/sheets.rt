@@ -1,7 +1,7 @@
-// The file that a route sheet is written to. What stands there is never lost: a sheet is written to a temporary file first, which then takes
-// the name, and a file that is no sheet is not replaced. Where the system refuses, standard error says why. What the system does is outside
-// the logic.
-use crate::paths;
+// The file that a route sheet is written to. What stands there is never lost: a sheet is written whole or not at all, and a file that is no sheet is
+// not replaced. Where the system refuses, standard error says why. What the system does is outside the logic.
+use crate::saving;
+use crate::saving::Mode;
 use crate::status;
 use crate::status::Status;
 use output::warn;
@@ -98,83 +98,12 @@ pub fn tell_kept(path: &[u8], place: Place) {
     }
 }
 
-// Has a new file keep the mode of the sheet that it takes the place of.
-fn keep_mode(fd: i32, place: Place) -> bool {
-    match place {
-        Place::Sheet(mode) => libc::fchmod(fd, mode % 4096) == 0,
-        Place::Free => true,
-        Place::Taken => true,
-    }
-}
-
-// Writes all bytes to a new file, down to the device.
-fn fill(fd: i32, bytes: &[u8], place: Place) -> bool {
-    keep_mode(fd, place) && io::write_all(fd, bytes) && libc::fsync(fd) == 0
-}
-
-// The same, and closes it. Where that fails, standard error says why, under the name that the file is for.
-fn finish(fd: i32, bytes: &[u8], path: &[u8], place: Place) -> bool {
-    if !fill(fd, bytes, place) {
-        os::fail(path);
-        libc::close(fd);
-        return false;
-    }
-    if libc::close(fd) < 0 {
-        os::fail(path);
-        return false;
-    }
-    true
-}
-
-// Has the system note on the device what names a folder holds. Not every system can, and the file is whole without it, so nothing depends on it.
-fn sync_folder(folder: &[u8]) {
-    let fd = os::open_read(folder);
-    if 0 <= fd {
-        libc::fsync(fd);
-        libc::close(fd);
-    }
-}
-
-// Writes the bytes to the temporary name, and then has that file take the other name. Where any of it fails, standard error says why, the temporary
-// file is removed, and what had the name has it still.
-fn write_by(temporary: &[u8], to: &[u8], bytes: &[u8], place: Place) -> bool {
-    let fd = os::create(temporary);
-    if fd < 0 {
-        os::fail(to);
-        return false;
-    }
-    if !finish(fd, bytes, to, place) {
-        os::unlink(temporary);
-        return false;
-    }
-    if os::rename(temporary, to) < 0 {
-        os::fail(to);
-        os::unlink(temporary);
-        return false;
-    }
-    true
-}
-
-// The same with a temporary name of its own.
-fn write_at(to: &[u8], bytes: &[u8], place: Place) -> bool {
-    let temporary = paths::temporary(to);
-    let name = temporary.bytes;
-    let n = temporary.size;
-    if !write_by(&name[..n], to, bytes, place) {
-        return false;
-    }
-    let folder = paths::folder(to);
-    let name = folder.bytes;
-    let n = folder.size;
-    sync_folder(&name[..n]);
-    true
-}
-
-// Writes a file of these bytes in place of what `look` saw there. Where the name is a symbolic link, it stays, and the file that it leads to is
-// replaced. False where that fails.
+// Writes the bytes of a sheet in place of what `look` saw there. False where that fails.
 pub fn write(path: &[u8], bytes: &[u8], place: Place) -> bool {
-    let target = paths::followed(path);
-    let name = target.bytes;
-    let n = target.size;
-    write_at(&name[..n], bytes, place)
+    let mode = match place {
+        Place::Sheet(mode) => Mode::Kept(mode),
+        Place::Free => Mode::Usual,
+        Place::Taken => Mode::Usual,
+    };
+    saving::save(path, bytes, mode)
 }
