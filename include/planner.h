@@ -2,11 +2,12 @@
  * The depot route planner: C interface of the static library libplanner.a.
  *
  * A plan and a route sheet are runs of 12-byte records. docs/FORMAT.md has them
- * byte by byte, docs/USING.md has worked examples. Three functions:
+ * byte by byte, docs/USING.md has worked examples. Four functions:
  *
  *   planner_check_plan    is this a plan?
  *   planner_search        which belts make the cheapest permitted route?
  *   planner_check_sheet   is this sheet a permitted route of that plan?
+ *   planner_archive       which bytes are the archive form of this plan?
  *
  * What they answer is proved for ALL bytes and ALL numbers: there is no input
  * that the caller has to look at first. Each function ends, and none allocates,
@@ -52,9 +53,10 @@ extern "C" {
  *   planner_check_plan    1 to 7
  *   planner_search        1 to 8, 15, 9, 10
  *   planner_check_sheet   1 to 8, 15, 11 to 14
+ *   planner_archive       1 to 7, 16
  */
 enum planner_number {
-    /* Yes: a plan, a route, an accepted sheet. */
+    /* Yes: a plan, a route, an accepted sheet, an archive form that is written. */
     PLANNER_OK = 0,
 
     /* The plan has under 24 or over PLANNER_PLAN_MAX bytes, or not 12 times as many as
@@ -78,7 +80,7 @@ enum planner_number {
     PLANNER_WRONG_ENDS = 8,
     /* pick over 2, order over 1, or budget 0. */
     PLANNER_WRONG_QUERY = 9,
-    /* out has under PLANNER_SHEET_MAX bytes. */
+    /* planner_search: out has under PLANNER_SHEET_MAX bytes. */
     PLANNER_SHORT_BUFFER = 10,
     /* The sheet is empty, over PLANNER_SHEET_MAX bytes or not in the form, names
      * something that is no belt, or sets a mode that is not there. */
@@ -93,6 +95,8 @@ enum planner_number {
     /* mask has a bit for a mode that the plan does not have, or values has a bit that
      * mask does not have. */
     PLANNER_WRONG_LOCK = 15,
+    /* planner_archive: out has fewer bytes than the plan. */
+    PLANNER_SHORT_PLAN_BUFFER = 16,
 
     /* planner_search: no route from s to t is permitted. */
     PLANNER_NONE = 100,
@@ -126,11 +130,12 @@ struct planner_query {
 };
 
 /*
- * What planner_search answers. On a refusal every number but the first is 0.
+ * What planner_search and planner_archive answer. On a refusal every number but the
+ * first is 0.
  *
  *   number    of enum planner_number
- *   opened    how many subproblems were opened
- *   length    of the sheet in bytes; 0 without one
+ *   opened    how many subproblems were opened; 0 from planner_archive
+ *   length    of the sheet, or of the archive form, in bytes; 0 without one
  *   tests     for later versions, and 0 until then
  */
 struct planner_reply {
@@ -182,13 +187,41 @@ struct planner_reply planner_search(const uint8_t *plan, size_t plan_len,
 uint64_t planner_check_sheet(const uint8_t *plan, size_t plan_len,
                              struct planner_query query, const uint8_t *sheet, size_t sheet_len);
 
+/*
+ * Writes a plan anew in its archive form: the same junctions, modes, belts and
+ * rules, with their records in one fixed order (docs/FORMAT.md). The archive forms
+ * of two plans are equal bytes exactly when the plans agree in
+ *
+ *   the counts of junctions and modes,
+ *   the list of belts in rising index: where each leaves, where it leads, its cost,
+ *   the rules with their literals in order, a belt being told by its place in that
+ *   list.
+ *
+ * The archive form of an archive form is itself. Belts get new indices, in the
+ * order of their old ones. Every query has the same answer about the archive form
+ * as about the plan: the same cost, setting and count, and the same belts, by their
+ * new indices. So a sheet that was written for the plan does not belong to the
+ * archive form: it may be refused there, or mean other belts.
+ *
+ *   plan, plan_len   any bytes; read
+ *   out, out_len     where the archive form is written to: plan_len bytes or more,
+ *                    which may not overlap the plan
+ *
+ * The number of the reply, and what is then in out:
+ *
+ *   0             written. The archive form stands in the first `length` bytes of
+ *                 out, the bytes behind it are as they were. length is plan_len
+ *   1 to 7, 16    refused; out is as it was
+ */
+struct planner_reply planner_archive(const uint8_t *plan, size_t plan_len, uint8_t *out, size_t out_len);
+
 /* The words for a number that one of the functions answered: those of the refusal table,
  * as the programs print them. */
 static inline const char *planner_message(uint64_t number)
 {
     switch (number) {
     case PLANNER_OK:
-        return "a plan, a route or an accepted sheet";
+        return "a plan, a route, an accepted sheet or an archive form that is written";
     case PLANNER_WRONG_SIZE:
         return "plan under 24 or over 24,576 bytes, or not 12 x f4 of record 0";
     case PLANNER_WRONG_HEADER:
@@ -222,6 +255,8 @@ static inline const char *planner_message(uint64_t number)
         return "a rule not met under the sheet's setting, or a setting that breaks the lock";
     case PLANNER_WRONG_LOCK:
         return "mask with a bit at or above M, or a value with a bit outside the mask";
+    case PLANNER_SHORT_PLAN_BUFFER:
+        return "out buffer shorter than the plan";
     case PLANNER_NONE:
         return "no route is permitted";
     case PLANNER_SPENT:

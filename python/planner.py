@@ -1,6 +1,6 @@
 """The depot route planner, called from Python.
 
-The module calls a shared library, which gcc makes of the archive that `rt staticlib planner` writes:
+The module calls a shared library, which gcc makes of the static library that `rt staticlib planner` writes:
 
     gcc -shared -o target/libplanner.so -Wl,--whole-archive target/staticlib/libplanner.a -Wl,--no-whole-archive
 
@@ -37,6 +37,19 @@ off, is not accepted:
 Traceback (most recent call last):
 ...
 planner.Refused: refused 14: a rule not met under the sheet's setting, or a setting that breaks the lock
+
+The archive form of a plan has the same junctions, modes, belts and rules, with their records in one fixed order. Here is plan P with its
+rule ahead of its belts. Its archive form is P, where belt 8 has the index 5, and the archive form of that is itself:
+
+>>> with open("examples/shuffled.plan", "rb") as file:
+...     shuffled = file.read()
+>>> archived = planner.archive(shuffled)
+>>> archived == shuffled, archived == plan
+(False, True)
+>>> planner.archive(archived) == archived
+True
+>>> planner.search(shuffled, 1, 3).route, planner.search(archived, 1, 3).route
+((8,), (5,))
 """
 import ctypes
 import operator
@@ -69,6 +82,7 @@ CAUSES = {
     13: "cost differs from the sum",
     14: "a rule not met under the sheet's setting, or a setting that breaks the lock",
     15: "mask with a bit at or above M, or a value with a bit outside the mask",
+    16: "out buffer shorter than the plan",
 }
 
 
@@ -133,6 +147,7 @@ def load(path=None):
         _declare(library.planner_check_plan, plan, ctypes.c_uint64)
         _declare(library.planner_search, plan + [_Query] + out, _Reply)
         _declare(library.planner_check_sheet, plan + [_Query] + plan, ctypes.c_uint64)
+        _declare(library.planner_archive, plan + out, _Reply)
     except (OSError, AttributeError) as error:
         raise LibraryError(f"{path} is no library of this planner: {error}") from error
     _library = library
@@ -216,3 +231,17 @@ def check_sheet(plan, s, t, sheet, mask=0, values=0):
     plan, sheet = _copied("plan", plan), _copied("sheet", sheet)
     query = _query(s=s, t=t, mask=mask, values=values)
     _unless_refused(_loaded().planner_check_sheet(plan, len(plan), query, sheet, len(sheet)))
+
+
+def archive(plan):
+    """Writes a plan anew in its archive form: returns its bytes, as many as the plan has, or raises Refused with a number from 1 to 7.
+
+    Two plans have equal archive forms exactly when they agree in the counts of junctions and modes, in the list of belts in rising index
+    (where each leaves, where it leads, its cost), and in the rules with their literals in order, a belt being told by its place in that
+    list. The archive form of an archive form is itself. Belts get new indices, in the order of their old ones; apart from that, every query
+    has the same answer."""
+    plan = _copied("plan", plan)
+    out = ctypes.create_string_buffer(len(plan))
+    reply = _loaded().planner_archive(plan, len(plan), out, len(out))
+    _unless_refused(reply.number)
+    return out.raw[:reply.length]

@@ -31,6 +31,12 @@ extern "C" {
         out: *mut u8,
         out_len: usize,
     ) -> PlannerReply;
+    fn planner_archive(
+        plan: *const u8,
+        plan_len: usize,
+        out: *mut u8,
+        out_len: usize,
+    ) -> PlannerReply;
 }
 
 pub fn check_plan(plan: &[u8]) -> u64 {
@@ -44,6 +50,16 @@ pub fn search(plan: &[u8], query: &Query, out: &mut [u8]) -> Answer {
     // SAFETY: both slices are valid for their lengths, and they do not overlap.
     let reply =
         unsafe { planner_search(plan.as_ptr(), plan.len(), asked, out.as_mut_ptr(), out.len()) };
+    answer(reply)
+}
+
+pub fn archive(plan: &[u8], out: &mut [u8]) -> Answer {
+    // SAFETY: as above.
+    let reply = unsafe { planner_archive(plan.as_ptr(), plan.len(), out.as_mut_ptr(), out.len()) };
+    answer(reply)
+}
+
+fn answer(reply: PlannerReply) -> Answer {
     assert_eq!(reply.tests, 0, "no tests are counted yet");
     Answer { number: reply.number, opened: reply.opened, length: reply.length }
 }

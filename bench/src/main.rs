@@ -1,6 +1,6 @@
-//! The planner's benchmark: opened subproblems per second and checked plan bytes
-//! per second, libplanner.a against a plain Rust baseline in the same run. What
-//! can be asked for is in `args`.
+//! The planner's benchmark: opened subproblems per second, and plan bytes per second
+//! that are checked or written in their archive form, libplanner.a against a plain Rust
+//! baseline in the same run. What can be asked for is in `args`.
 
 mod args;
 mod baseline;
@@ -63,9 +63,12 @@ fn run_rows(wanted: &str, time: Duration) -> Result<(), Failure> {
     searches.retain(|row| row.name.contains(wanted));
     let mut plans = rows::plans();
     plans.retain(|row| row.name.contains(wanted));
-    if searches.is_empty() && plans.is_empty() {
+    let mut archives = rows::archives();
+    archives.retain(|row| row.name.contains(wanted));
+    if searches.is_empty() && plans.is_empty() && archives.is_empty() {
         return Err(Failure::Usage(format!("no row's name contains {wanted:?}")));
     }
     report::searches(&searches, time).map_err(Failure::Run)?;
-    report::plan_checks(&plans, time).map_err(Failure::Run)
+    report::plan_checks(&plans, time).map_err(Failure::Run)?;
+    report::archives(&archives, time).map_err(Failure::Run)
 }

@@ -6,13 +6,14 @@ use std::time::Duration;
 /// Seconds per call, the best of all batches.
 pub struct Times {
     pub planner: f64,
-    pub rust: f64,
+    /// Of the baseline, or of another call of the planner.
+    pub other: f64,
 }
 
 impl Times {
-    /// Above 1 the planner takes longer.
+    /// Above 1 the planner takes longer than the other side.
     pub fn ratio(&self) -> f64 {
-        self.planner / self.rust
+        self.planner / self.other
     }
 }
 
@@ -51,21 +52,21 @@ impl<'a> Side<'a> {
 
 /// Runs both sides in turn, first one ahead and then the other, until each has
 /// had its time and some rounds.
-pub fn in_turn(time: Duration, planner: &mut dyn FnMut(), rust: &mut dyn FnMut()) -> Times {
+pub fn in_turn(time: Duration, planner: &mut dyn FnMut(), other: &mut dyn FnMut()) -> Times {
     let mut planner = Side::new(planner);
-    let mut rust = Side::new(rust);
+    let mut other = Side::new(other);
     let mut round = 0;
-    while round < MIN_ROUNDS || planner.spent < time || rust.spent < time {
+    while round < MIN_ROUNDS || planner.spent < time || other.spent < time {
         if round % 2 == 0 {
             planner.batch();
-            rust.batch();
+            other.batch();
         } else {
-            rust.batch();
+            other.batch();
             planner.batch();
         }
         round += 1;
     }
-    Times { planner: planner.best, rust: rust.best }
+    Times { planner: planner.best, other: other.best }
 }
 
 #[repr(C)]

@@ -1,4 +1,5 @@
-//! What a search is asked and what it answers, for both sides.
+//! What a search is asked, and what it and the writer of an archive form answer, for
+//! both sides.
 
 #[derive(Clone, Copy, Debug, PartialEq)]
 pub struct Query {
@@ -12,8 +13,8 @@ pub struct Query {
     pub values: u64,
 }
 
-/// The returned number (0 a route, 1 to 10 and 15 refused, 100 none, 101 spent), the
-/// opened count and the sheet's length.
+/// The returned number (0 a route, or written; 1 to 10, 15 and 16 refused; 100 none,
+/// 101 spent), the opened count and the length of what is written.
 #[derive(Clone, Copy, Debug, PartialEq)]
 pub struct Answer {
     pub number: u64,
@@ -28,5 +29,7 @@ impl Answer {
 }
 
 pub const ROUTE: u64 = 0;
+/// An archive form is written.
+pub const WRITTEN: u64 = 0;
 pub const NONE: u64 = 100;
 pub const SPENT: u64 = 101;

@@ -1,8 +1,8 @@
 //! Compares both sides on each row, times them, and prints the tables.
 
 use crate::measure::{in_turn, Times};
-use crate::query::{Answer, Query, NONE, ROUTE, SPENT};
-use crate::records::SHEET_MAX;
+use crate::query::{Answer, Query, NONE, ROUTE, SPENT, WRITTEN};
+use crate::records::{PLAN_MAX, SHEET_MAX};
 use crate::rows::{PlanRow, Row};
 use crate::{baseline, call, check};
 use std::hint::black_box;
@@ -10,6 +10,10 @@ use std::time::Duration;
 
 /// Above this ratio a row is marked.
 const SLOW: f64 = 1.25;
+
+/// A writer of an archive form is to take at most so many times what the planner's own
+/// check of the same plan takes.
+const CHECKS: f64 = 2.0;
 
 const SEARCH_HEAD: &str = "\
 Searches, from plan bytes to sheet: opened subproblems per second.
@@ -22,6 +26,12 @@ const CHECK_HEAD: &str = "
 Plan check: bytes per second.
 
 row                     bytes answer   planner/s      Rust/s  ratio";
+
+const ARCHIVE_HEAD: &str = "
+Archive form, from plan bytes to those of the form, the check of the plan among it: bytes per second.
+checks: processor time of the planner / of its own check of the same plan.
+
+row                     bytes checks   planner/s      Rust/s  ratio";
 
 const REFUSED: &str = "
 The ending is the number of a refusal. Nothing is opened: the speeds are calls per second.";
@@ -148,13 +158,77 @@ fn plan_check(row: &PlanRow, time: Duration) -> Result<f64, String> {
     Ok(times.ratio())
 }
 
+pub fn archives(rows: &[PlanRow], time: Duration) -> Result<(), String> {
+    if rows.is_empty() {
+        return Ok(());
+    }
+    println!("{ARCHIVE_HEAD}");
+    let (mut ratios, mut checks) = (Vec::new(), 0.0);
+    for row in rows {
+        let (ratio, check) = archive(row, time)?;
+        ratios.push(ratio);
+        checks = f64::max(checks, check);
+    }
+    summary(&ratios);
+    println!("checks: at most {checks:.2}, and the aim is {CHECKS:.2}");
+    Ok(())
+}
+
+/// The ratio to Rust, and that to the planner's own check.
+fn archive(row: &PlanRow, time: Duration) -> Result<(f64, f64), String> {
+    same_form(row)?;
+    let mut out = [0; PLAN_MAX];
+    let mut rust_out = [0; PLAN_MAX];
+    let times = in_turn(
+        time,
+        &mut || {
+            black_box(call::archive(black_box(&row.plan), &mut out));
+        },
+        &mut || {
+            black_box(baseline::archive(black_box(&row.plan), &mut rust_out));
+        },
+    );
+    let beside_check = in_turn(
+        time,
+        &mut || {
+            black_box(call::archive(black_box(&row.plan), &mut out));
+        },
+        &mut || {
+            black_box(call::check_plan(black_box(&row.plan)));
+        },
+    );
+    let checks = beside_check.ratio();
+    print!("{:<22} {:>6} {:>6.2}", row.name, row.plan.len(), checks);
+    print_speed(&times, row.plan.len() as f64);
+    Ok((times.ratio(), checks))
+}
+
+/// Both sides must write the same bytes, and leave those behind them as they were.
+fn same_form(row: &PlanRow) -> Result<(), String> {
+    let name = row.name;
+    let mut out = vec![0xA5; row.plan.len() + 100];
+    let mut rust_out = out.clone();
+    let answer = call::archive(&row.plan, &mut out);
+    let rust = baseline::archive(&row.plan, &mut rust_out);
+    if answer != rust {
+        return Err(format!("row {name}: the planner answers {answer:?}, and Rust {rust:?}"));
+    }
+    if answer.number != WRITTEN {
+        return Err(format!("row {name}: refused with {}", answer.number));
+    }
+    if out != rust_out {
+        return Err(format!("row {name}: the answers agree, and the archive forms differ"));
+    }
+    Ok(())
+}
+
 /// Ends a row: units per second of both sides and the ratio, marked if slow.
 fn print_speed(times: &Times, units: f64) {
     let mark = if times.ratio() > SLOW { "  slow" } else { "" };
     println!(
         " {:>11.0} {:>11.0} {:>6.2}{}",
         units / times.planner,
-        units / times.rust,
+        units / times.other,
         times.ratio(),
         mark
     );

@@ -24,6 +24,7 @@ pub struct PlanRow {
 const AMPLE: u64 = 1_000_000;
 
 const SMALL: Network = Network { junctions: 12, belts: 40, graph: Local(4) };
+const SHUFFLED_40: Network = Network { junctions: 40, belts: 120, graph: Scattered(8) };
 const FAN_3: Network = Network { junctions: 64, belts: 200, graph: Local(8) };
 const SPARSE: Network = Network { junctions: 250, belts: 500, graph: Local(3) };
 const DENSE: Network = Network { junctions: 64, belts: 500, graph: Local(16) };
@@ -148,9 +149,12 @@ fn locks() -> Vec<Row> {
     ]
 }
 
+fn plan(name: &'static str, spec: Spec) -> PlanRow {
+    PlanRow { name, plan: spec.plan().1 }
+}
+
 /// Plans for the plan check alone.
 pub fn plans() -> Vec<PlanRow> {
-    let plan = |name, spec: Spec| PlanRow { name, plan: spec.plan().1 };
     vec![
         plan("check 40", SMALL.rules(1, 12, Bans(12))),
         plan("check 500", DENSE.rules(1, 24, Mixed(24))),
@@ -161,11 +165,22 @@ pub fn plans() -> Vec<PlanRow> {
     ]
 }
 
+/// Plans to be written in their archive form: one of 40 junctions, and largest ones. Two
+/// have their records scattered, the others are their own archive form.
+pub fn archives() -> Vec<PlanRow> {
+    vec![
+        plan("archive 40 junctions", SHUFFLED_40.rules(1, 12, Mixed(20))),
+        plan("archive largest belts", BIG.rules(1, 12, Bans(12))),
+        plan("archive largest rules", NARROW.rules(1, 48, Mixed(300))),
+        plan("archive scattered", STREWN.rules(1, 48, Mixed(100))),
+    ]
+}
+
 #[cfg(test)]
 mod tests {
     use super::*;
     use crate::baseline;
-    use crate::query::{Answer, ROUTE};
+    use crate::query::{Answer, ROUTE, WRITTEN};
     use crate::records::{self, Record, SHEET_MAX};
 
     fn example(name: &str) -> Result<Row, String> {
@@ -212,6 +227,17 @@ mod tests {
             assert_eq!((free_answer.number, answer.number), (ROUTE, ROUTE));
             assert_ne!(sheet[1..], free_sheet[1..]);
             assert_eq!(sheet[0][5] & mask, values);
+        }
+    }
+
+    /// The scattered rows have something to do, and the others are as they were.
+    #[test]
+    fn archive_rows() {
+        for row in archives() {
+            let mut out = vec![0; row.plan.len()];
+            assert_eq!(baseline::archive(&row.plan, &mut out).number, WRITTEN, "{}", row.name);
+            let scattered = ["archive 40 junctions", "archive scattered"].contains(&row.name);
+            assert_eq!(out != row.plan, scattered, "{}", row.name);
         }
     }
 

@@ -12,22 +12,23 @@ use crate::sheet;
 use crate::written::{self, Ending, Named};
 
 /// What a search has to find: belts, cost and setting, none, or spent.
-enum Found<'a> {
+#[derive(Clone, Copy)]
+pub enum Found<'a> {
     Route(&'a [usize], u64, u64),
     None,
     Spent,
 }
 
 /// Name, records, (s, t, pick, order, budget), what is found, opened.
-type Anchor<'a> = (&'static str, Vec<Record>, [u64; 5], Found<'a>, u64);
+pub type Anchor<'a> = (&'static str, Vec<Record>, [u64; 5], Found<'a>, u64);
 
 /// Mask and values of the lock, and what is asked under it.
 type Locked<'a> = ([u64; 2], Anchor<'a>);
 
-const ENOUGH: u64 = 1_000_000;
+pub const ENOUGH: u64 = 1_000_000;
 
 /// Three junctions, belts from index 4, then rules and literals.
-fn plan(modes: u16, heads: [u16; 3], first_rule: u16, above: &[Record]) -> Vec<Record> {
+pub fn plan(modes: u16, heads: [u16; 3], first_rule: u16, above: &[Record]) -> Vec<Record> {
     let mut records: Vec<Record> = vec![[7, 3, modes, first_rule, 4 + above.len() as u16, 0]];
     records.extend(heads.map(|head| [1, head, 0, 0, 0, 0]));
     records.extend_from_slice(above);
@@ -37,22 +38,22 @@ fn plan(modes: u16, heads: [u16; 3], first_rule: u16, above: &[Record]) -> Vec<R
 const P_BELTS: [Record; 3] = [[2, 5, 2, 3, 0, 0], [2, 0, 3, 9, 0, 0], [2, 0, 3, 4, 0, 0]];
 
 /// P's junctions and belts with other rules.
-fn p_with(modes: u16, rules: &[Record]) -> Vec<Record> {
+pub fn p_with(modes: u16, rules: &[Record]) -> Vec<Record> {
     let first_rule = if rules.is_empty() { 0 } else { 7 };
     plan(modes, [4, 6, 0], first_rule, &[&P_BELTS[..], rules].concat())
 }
 
-fn p() -> Vec<Record> {
+pub fn p() -> Vec<Record> {
     p_with(1, &[[3, 0, 8, 0, 0, 0], [4, 9, 0, 0, 4, 0], [4, 0, 0, 0, 6, 0]])
 }
 
 /// P with the only rule "not belt 4, or mode 1".
-fn e10() -> Vec<Record> {
+pub fn e10() -> Vec<Record> {
     p_with(1, &[[3, 0, 8, 0, 0, 0], [4, 9, 0, 0, 4, 0], [4, 0, 1, 1, 1, 0]])
 }
 
 /// P with a belt 5 that costs 65,545.
-fn p_high() -> Vec<Record> {
+pub fn p_high() -> Vec<Record> {
     let mut records = p();
     records[5] = [2, 0, 3, 9, 1, 0];
     records
@@ -187,7 +188,7 @@ fn high_ties() -> Vec<Anchor<'static>> {
 }
 
 /// A row of 256 junctions, with a belt of 2^32 - 1 from each to the next one: 257 to 511.
-fn dearest_row() -> Vec<Record> {
+pub fn dearest_row() -> Vec<Record> {
     let mut records: Vec<Record> = vec![[7, 256, 0, 0, 512, 0]];
     records.extend((257..=511).map(|belt| [1, belt, 0, 0, 0, 0]));
     records.push([1, 0, 0, 0, 0, 0]);
@@ -240,7 +241,7 @@ fn hold_cost_fields() -> Verdict {
 }
 
 /// Records of P that are changed, and the line that is broken then; 0 if none is.
-fn changed_plans() -> Vec<(&'static [(usize, Record)], u64)> {
+pub fn changed_plans() -> Vec<(&'static [(usize, Record)], u64)> {
     vec![
         (&[], 0),
         (&[(1, [1, 10, 0, 0, 0, 0])], 4),
@@ -534,7 +535,7 @@ fn hold_refusals(judge: &mut Judge) -> Verdict {
 }
 
 /// A fixed plan as the tests read it.
-fn read(bytes: &[u8]) -> Result<Plan, String> {
+pub fn read(bytes: &[u8]) -> Result<Plan, String> {
     refusals::read(bytes).map_err(|line| format!("the tests refuse a fixed plan by line {line}"))
 }
 
@@ -577,7 +578,7 @@ pub fn run(judge: &mut Judge) -> Verdict {
 }
 
 /// Holds the library and the tests' own search to the written numbers.
-fn hold(judge: &mut Judge, lock: &Lock, anchor: Anchor) -> Verdict {
+pub fn hold(judge: &mut Judge, lock: &Lock, anchor: Anchor) -> Verdict {
     let name = anchor.0;
     hold_numbers(judge, lock, anchor).map_err(|message| format!("fixed plan {name}, {lock:?}: {message}"))
 }

@@ -46,6 +46,7 @@ extern "C" {
         sheet: *const u8,
         sheet_len: usize,
     ) -> u64;
+    fn planner_archive(plan: *const u8, plan_len: usize, out: *mut u8, out_len: usize) -> PlannerReply;
 }
 
 const GUARD: usize = 64;
@@ -99,13 +100,21 @@ impl Lent {
     }
 }
 
-/// What a search answered, with the buffer before and after.
-pub struct Searched {
+/// What a function that writes answered, with its out buffer before and after.
+pub struct Replied {
     pub reply: PlannerReply,
     pub out_before: Vec<u8>,
     pub out: Vec<u8>,
     /// What changed that no answer may change.
     pub strayed: Option<String>,
+}
+
+impl Replied {
+    fn of(reply: PlannerReply, plan: &Lent, out: &Lent) -> Replied {
+        let strayed = plan.read_only("plan");
+        let strayed = strayed.or(out.guards_changed().then(|| "guard bytes of out changed".to_string()));
+        Replied { reply, out_before: out.content_before().to_vec(), out: out.content().to_vec(), strayed }
+    }
 }
 
 /// The number, and what changed though nothing may.
@@ -124,7 +133,7 @@ fn asked(trip: &Trip, rng: &mut Rng) -> PlannerQuery {
     PlannerQuery { s, t, pick, order, budget, mask, values, minute }
 }
 
-pub fn search(plan: &[u8], query: &Query, rng: &mut Rng) -> Searched {
+pub fn search(plan: &[u8], query: &Query, rng: &mut Rng) -> Replied {
     let mut plan = Lent::new(plan, rng);
     let mut out = Lent::new(&rng.bytes(query.out_len), rng);
     let &Query { pick, order, budget, .. } = query;
@@ -132,9 +141,17 @@ pub fn search(plan: &[u8], query: &Query, rng: &mut Rng) -> Searched {
     let (plan_pointer, plan_len, out_pointer, out_len) = (plan.pointer(), plan.len, out.pointer(), out.len);
     // SAFETY: each buffer has as many bytes as is said, and none overlaps another.
     let reply = stack::SEARCH.call(|| unsafe { planner_search(plan_pointer, plan_len, asked, out_pointer, out_len) });
-    let strayed = plan.read_only("plan");
-    let strayed = strayed.or(out.guards_changed().then(|| "guard bytes of out changed".to_string()));
-    Searched { reply, out_before: out.content_before().to_vec(), out: out.content().to_vec(), strayed }
+    Replied::of(reply, &plan, &out)
+}
+
+/// The archive form of a plan, into an out buffer of this length.
+pub fn archive(plan: &[u8], out_len: usize, rng: &mut Rng) -> Replied {
+    let mut plan = Lent::new(plan, rng);
+    let mut out = Lent::new(&rng.bytes(out_len), rng);
+    let (plan_pointer, plan_len, out_pointer, out_len) = (plan.pointer(), plan.len, out.pointer(), out.len);
+    // SAFETY: each buffer has as many bytes as is said, and none overlaps another.
+    let reply = stack::ARCHIVE.call(|| unsafe { planner_archive(plan_pointer, plan_len, out_pointer, out_len) });
+    Replied::of(reply, &plan, &out)
 }
 
 /// The number, and what changed though nothing may. Pick, order, budget and minute are not

@@ -1,5 +1,6 @@
 //! One case: a plan from a seed, and everything that is asked about it.
 
+use crate::archive::Form;
 use crate::compare::{print_changes, print_records, Answer, Judge, Verdict};
 use crate::layout::{lay_out, Draft};
 use crate::plan::{bytes_of, About, Literal, Plan, MAX_JUNCTIONS, MAX_MODES, MAX_NAMED, MAX_RECORDS, RECORD};
@@ -38,15 +39,24 @@ pub fn class(line: u64, name: &str) -> String {
     format!("line {line}: {name}")
 }
 
-/// A plan's bytes, what they stand for, and its named belts.
+/// A plan's bytes, what they stand for, its named belts, and its archive form.
 pub struct Scene {
     pub bytes: Vec<u8>,
     pub plan: Plan,
     pub named: Named,
+    pub form: Form,
+}
+
+impl Scene {
+    fn of(bytes: Vec<u8>, plan: Plan) -> Scene {
+        Scene { bytes, named: Named::of(&plan), form: Form::of(&plan), plan }
+    }
 }
 
 pub struct Case<'a> {
     pub rng: Rng,
+    /// Draws for what is asked about archive forms, so that the others of a seed do not depend on them.
+    pub aside: Rng,
     pub judge: &'a mut Judge,
     pub damages: &'a Damages,
     /// A sheet to lend where no better one is at hand.
@@ -56,11 +66,13 @@ pub struct Case<'a> {
 /// Runs the case of a seed.
 pub fn run(seed: u64, damages: &Damages, judge: &mut Judge) -> Verdict {
     judge.begin(seed);
-    let mut case = Case { rng: Rng::new(seed), judge, damages, sheet: sheet::write(&[], 0, 0) };
+    let (rng, aside) = (Rng::new(seed), Rng::new(seed.rotate_left(32)));
+    let mut case = Case { rng, aside, judge, damages, sheet: sheet::write(&[], 0, 0) };
     let draft = generate::draft(&mut case.rng);
     let scene = case.scene(&draft)?;
     case.note_plan(&scene);
     case.judge.plan(&scene.bytes, 0)?;
+    case.archived(&scene)?;
     for (s, t) in case.pairs(&draft) {
         case.pair(&scene, s, t)?;
     }
@@ -79,7 +91,7 @@ impl Case<'_> {
             print_records(&bytes);
         }
         match refusals::read(&bytes) {
-            Ok(read) if read == plan => Ok(Scene { bytes, named: Named::of(&plan), plan }),
+            Ok(read) if read == plan => Ok(Scene::of(bytes, plan)),
             Ok(_) => Err("the tests' own reading of a plan differs from the plan".to_string()),
             Err(line) => Err(format!("the tests' own reading refuses a generated plan by line {line}")),
         }
@@ -87,7 +99,7 @@ impl Case<'_> {
 
     /// Counts what sort of plan it is.
     fn note_plan(&mut self, scene: &Scene) {
-        let Scene { bytes, plan, named } = scene;
+        let Scene { bytes, plan, named, .. } = scene;
         let records = bytes.len() / RECORD;
         let tally = &mut self.judge.tally;
         tally.add("junctions", ["1", "2..12", "13..255", "256"][rank(plan.junctions, &[1, 12, 255])]);
@@ -172,8 +184,12 @@ impl Case<'_> {
                 self.judge.tally.add("plans", "damaged and still valid");
                 self.judge.plan(&bytes, 0)?;
                 let (one, other) = (self.rng.range(1, plan.junctions), self.rng.range(1, plan.junctions));
-                let scene = Scene { bytes, named: Named::of(&plan), plan };
-                self.pair(&scene, one.min(other), one.max(other))
+                let damaged = Scene::of(bytes, plan);
+                self.archived(&damaged)?;
+                if scene.form.agrees(&damaged.form)? {
+                    self.judge.tally.add("same archive form", "damaged plan");
+                }
+                self.pair(&damaged, one.min(other), one.max(other))
             }
         }
     }
@@ -188,7 +204,8 @@ impl Case<'_> {
         }
         self.judge.search(bytes, &query, &Answer::Refused(line))?;
         let sheet = if self.rng.chance(1, 4) { Vec::new() } else { self.sheet.clone() };
-        self.judge.check(bytes, &query.trip, &sheet, line)
+        self.judge.check(bytes, &query.trip, &sheet, line)?;
+        self.no_form(bytes, line)
     }
 
     /// Plans at and just over the bounds: named belts, records, junctions, modes.
@@ -222,6 +239,7 @@ impl Case<'_> {
         let scene = self.scene(draft)?;
         self.note_plan(&scene);
         self.judge.plan(&scene.bytes, 0)?;
+        self.archived(&scene)?;
         let (low, high) = draft.core;
         let t = self.rng.range(low, high);
         self.pair(&scene, low, t)

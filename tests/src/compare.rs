@@ -1,9 +1,9 @@
 //! Calls the library and compares its answer, and everything lent to it, with
 //! what is expected.
 
-use crate::call::{self, PlannerReply, Searched};
+use crate::call::{self, PlannerReply, Replied};
 use crate::lock::FREE;
-use crate::plan::{records_of, Record};
+use crate::plan::{records_of, Record, RECORD};
 use crate::refusals::{Query, Trip};
 use crate::rng::Rng;
 use crate::tally::Tally;
@@ -12,7 +12,7 @@ use crate::tally::Tally;
 pub type Verdict = Result<(), String>;
 
 /// What a search is expected to answer.
-#[derive(Debug)]
+#[derive(Clone, Debug)]
 pub enum Answer {
     Refused(u64),
     Route { opened: u64, sheet: Vec<u8> },
@@ -72,18 +72,36 @@ impl Judge {
             query.budget,
             query.out_len
         );
-        let wanted = expected.after(&got);
+        self.written(&what, plan, expected.after(&got), &got)
+    }
+
+    /// The archive form of a plan: its bytes are expected, or the line that is broken.
+    pub fn archive(&mut self, plan: &[u8], out_len: usize, expected: Result<&[u8], u64>) -> Verdict {
+        let got = call::archive(plan, out_len, &mut self.guards);
+        self.tally.add("answers of planner_archive", &got.reply.number.to_string());
+        let what = format!("archive form of {} bytes, out {out_len} bytes", plan.len());
+        let (number, form) = match expected {
+            Ok(form) => (0, form),
+            Err(line) => (line, &[][..]),
+        };
+        let wanted = State::with(PlannerReply { number, opened: 0, length: form.len() as u64, tests: 0 }, form, &got);
+        self.written(&what, plan, wanted, &got)
+    }
+
+    /// Compares a whole reply and the whole out buffer, and asks that nothing else changed.
+    fn written(&mut self, what: &str, plan: &[u8], wanted: State, got: &Replied) -> Verdict {
+        let state = State { reply: got.reply, out: got.out.clone() };
         if self.verbose {
-            println!("{what}: expected {}, got {}", wanted.shown(), State::of(&got).shown());
+            println!("{what}: expected {}, got {}", wanted.shown(), state.shown());
         }
         if let Some(strayed) = &got.strayed {
             return self.wrong(plan, format!("{what}: {strayed}"));
         }
-        if wanted != State::of(&got) {
+        if wanted != state {
             let differs = got.out.iter().zip(&wanted.out).position(|(got, wanted)| got != wanted);
-            let differs = differs.map_or(String::new(), |at| format!("; out differs first at byte {at}"));
-            let wanted = wanted.shown();
-            return self.wrong(plan, format!("{what}: expected {wanted}, got {}{differs}", State::of(&got).shown()));
+            let told = |at| format!("; out differs first at byte {at}, in record {}", at / RECORD);
+            let differs = differs.map_or(String::new(), told);
+            return self.wrong(plan, format!("{what}: expected {}, got {}{differs}", wanted.shown(), state.shown()));
         }
         Ok(())
     }
@@ -114,7 +132,7 @@ impl Judge {
     }
 }
 
-/// A search's reply, and the buffer after the call.
+/// A reply, and the out buffer after the call.
 #[derive(PartialEq)]
 struct State {
     reply: PlannerReply,
@@ -122,35 +140,34 @@ struct State {
 }
 
 impl State {
-    fn of(got: &Searched) -> State {
-        State { reply: got.reply, out: got.out.clone() }
+    /// This reply, and these bytes at the start of out, which else is as it was.
+    fn with(reply: PlannerReply, written: &[u8], got: &Replied) -> State {
+        let mut out = got.out_before.clone();
+        out[..written.len()].copy_from_slice(written);
+        State { reply, out }
     }
 
     fn shown(&self) -> String {
         let PlannerReply { number, opened, length, tests } = self.reply;
-        let sheet = if number == 0 && length as usize <= self.out.len() {
+        let written = if number == 0 && length as usize <= self.out.len() {
             shown(&self.out[..length as usize])
         } else {
-            String::from("no sheet")
+            String::from("nothing written")
         };
-        format!("{number} opened {opened} length {length} tests {tests} ({sheet})")
+        format!("{number} opened {opened} length {length} tests {tests} ({written})")
     }
 }
 
 impl Answer {
     /// What everything has to be after the call, from what the buffer was before.
-    fn after(&self, got: &Searched) -> State {
-        let mut out = got.out_before.clone();
-        let (number, opened, length) = match self {
-            Answer::Refused(number) => (*number, 0, 0),
-            Answer::None { opened } => (100, *opened, 0),
-            Answer::Spent { opened } => (101, *opened, 0),
-            Answer::Route { opened, sheet } => {
-                out[..sheet.len()].copy_from_slice(sheet);
-                (0, *opened, sheet.len() as u64)
-            }
+    fn after(&self, got: &Replied) -> State {
+        let (number, opened, sheet) = match self {
+            Answer::Refused(number) => (*number, 0, &[][..]),
+            Answer::None { opened } => (100, *opened, &[][..]),
+            Answer::Spent { opened } => (101, *opened, &[][..]),
+            Answer::Route { opened, sheet } => (0, *opened, &sheet[..]),
         };
-        State { reply: PlannerReply { number, opened, length, tests: 0 }, out }
+        State::with(PlannerReply { number, opened, length: sheet.len() as u64, tests: 0 }, sheet, got)
     }
 }
 
@@ -163,9 +180,9 @@ fn fields(record: &Record) -> String {
     record.map(|field| field.to_string()).join(" ")
 }
 
-/// The first records of a sheet, and how many bytes are no whole record.
-fn shown(sheet: &[u8]) -> String {
-    let records = records_of(sheet);
+/// The first records of a sheet or of a plan, and how many there are more.
+fn shown(bytes: &[u8]) -> String {
+    let records = records_of(bytes);
     let mut words: Vec<String> = records.iter().take(12).map(fields).collect();
     if records.len() > 12 {
         words.push(format!("and {} records more", records.len() - 12));

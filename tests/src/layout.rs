@@ -4,7 +4,7 @@
 use crate::plan::{About, Belt, Literal, Plan, Record};
 use crate::rng::Rng;
 
-#[derive(Clone, Debug)]
+#[derive(Clone, Debug, PartialEq)]
 pub struct DraftBelt {
     pub from: usize,
     pub to: usize,
@@ -13,7 +13,7 @@ pub struct DraftBelt {
 
 /// A plan before its records have indices: a literal's belt is a place in `belts`.
 /// Routes between junctions inside `core` are few enough to be listed.
-#[derive(Clone, Debug)]
+#[derive(Clone, Debug, PartialEq)]
 pub struct Draft {
     pub junctions: usize,
     pub modes: usize,
@@ -33,7 +33,7 @@ impl Draft {
 /// A record above the junctions.
 #[derive(Clone, Copy)]
 enum Item {
-    /// Junction, and turn in the chain of belts leaving it.
+    /// A list of belts that stand in this order, and turn in it.
     Belt(usize, usize),
     Rule(usize),
     /// Rule, and turn in its chain of literals.
@@ -48,11 +48,20 @@ struct Indices {
     literals: Vec<Vec<usize>>,
 }
 
-/// Records and the plan they stand for.
+/// Records and the plan they stand for. The belts that leave one junction keep their order.
 pub fn lay_out(draft: &Draft, rng: &mut Rng) -> (Vec<Record>, Plan) {
-    let leaving = leaving(draft);
-    let indices = indices(draft, &leaving, &placed(draft, &leaving, rng));
-    (records(draft, &leaving, &indices), named_plan(draft, &indices))
+    lay_out_by(draft, &leaving(draft), rng)
+}
+
+/// The same, and all belts keep the order of the draft: what is drawn is where rules and literals stand.
+pub fn lay_out_in_order(draft: &Draft, rng: &mut Rng) -> (Vec<Record>, Plan) {
+    lay_out_by(draft, &[(0..draft.belts.len()).collect()], rng)
+}
+
+/// Each list has places of belts, whose indices rise along the list.
+fn lay_out_by(draft: &Draft, lists: &[Vec<usize>], rng: &mut Rng) -> (Vec<Record>, Plan) {
+    let indices = indices(draft, lists, &placed(draft, lists, rng));
+    (records(draft, &leaving(draft), &indices), named_plan(draft, &indices))
 }
 
 /// The places of the belts that leave each junction, in chain order.
@@ -65,11 +74,11 @@ fn leaving(draft: &Draft) -> Vec<Vec<usize>> {
 }
 
 /// All items in the order of their indices. An item is ready once its holder is placed.
-fn placed(draft: &Draft, leaving: &[Vec<usize>], rng: &mut Rng) -> Vec<Item> {
+fn placed(draft: &Draft, lists: &[Vec<usize>], rng: &mut Rng) -> Vec<Item> {
     let mut ready: Vec<Item> = Vec::new();
-    for (junction, chain) in leaving.iter().enumerate() {
-        if !chain.is_empty() {
-            ready.push(Item::Belt(junction, 0));
+    for (list, belts) in lists.iter().enumerate() {
+        if !belts.is_empty() {
+            ready.push(Item::Belt(list, 0));
         }
     }
     if !draft.rules.is_empty() {
@@ -81,8 +90,8 @@ fn placed(draft: &Draft, leaving: &[Vec<usize>], rng: &mut Rng) -> Vec<Item> {
         let item = ready.swap_remove(choice(&ready, style, rng));
         placed.push(item);
         match item {
-            Item::Belt(junction, turn) if turn + 1 < leaving[junction].len() => {
-                ready.push(Item::Belt(junction, turn + 1));
+            Item::Belt(list, turn) if turn + 1 < lists[list].len() => {
+                ready.push(Item::Belt(list, turn + 1));
             }
             Item::Belt(..) => {}
             Item::Rule(rule) => {
@@ -113,7 +122,7 @@ fn choice(ready: &[Item], style: usize, rng: &mut Rng) -> usize {
     rng.pick(&liked).unwrap_or_else(|| rng.below(ready.len()))
 }
 
-fn indices(draft: &Draft, leaving: &[Vec<usize>], placed: &[Item]) -> Indices {
+fn indices(draft: &Draft, lists: &[Vec<usize>], placed: &[Item]) -> Indices {
     let mut indices = Indices {
         belts: vec![0; draft.belts.len()],
         rules: vec![0; draft.rules.len()],
@@ -122,7 +131,7 @@ fn indices(draft: &Draft, leaving: &[Vec<usize>], placed: &[Item]) -> Indices {
     for (place, item) in placed.iter().enumerate() {
         let index = draft.junctions + 1 + place;
         match *item {
-            Item::Belt(junction, turn) => indices.belts[leaving[junction][turn]] = index,
+            Item::Belt(list, turn) => indices.belts[lists[list][turn]] = index,
             Item::Rule(rule) => indices.rules[rule] = index,
             Item::Literal(rule, turn) => indices.literals[rule][turn] = index,
         }

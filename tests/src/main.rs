@@ -7,8 +7,12 @@
 //! PLANNER_TEST_PLANS says how many plans, PLANNER_TEST_SEED another base seed.
 
 mod anchors;
+mod archive;
+mod archive_anchors;
+mod archives;
 mod call;
 mod case;
+mod change;
 mod checks;
 mod compare;
 mod damage;
@@ -101,7 +105,8 @@ fn run_all() -> bool {
     let base = setting("PLANNER_TEST_SEED", BASE_SEED);
     let damages = Damages::all();
     let mut judge = Judge::new(false);
-    if let Err(message) = anchors::run(&mut judge).and_then(|()| examples::run(&mut judge)) {
+    let fixed = anchors::run(&mut judge).and_then(|()| archive_anchors::run(&mut judge));
+    if let Err(message) = fixed.and_then(|()| examples::run(&mut judge)) {
         println!("FAILED: {message}");
         return false;
     }

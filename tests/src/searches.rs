@@ -71,12 +71,13 @@ impl Case<'_> {
         Ok(count)
     }
 
-    /// The sheet that the searches wrote is accepted.
+    /// The sheet that the searches wrote is accepted, and so is the renumbered one.
     fn own_sheet(&mut self, scene: &Scene, trip: &Trip, routes: &[Route]) -> Verdict {
         let Some(route) = enumerate::first_permitted(routes) else { return Ok(()) };
         let Route { belts, cost, setting, .. } = route;
         let sheet = sheet::write(belts, *cost, setting.expect("permitted"));
-        self.judge.check(&scene.bytes, trip, &sheet, 0)
+        self.judge.check(&scene.bytes, trip, &sheet, 0)?;
+        self.judge.check(&scene.form.bytes, trip, &scene.form.sheet(&sheet), 0)
     }
 
     /// Counts whether the opened counts, by pick and order, tell these apart.
@@ -171,7 +172,7 @@ impl Case<'_> {
             }
             _ => return Err("the written search does not end with the first permitted route".to_string()),
         };
-        self.judge.search(&scene.bytes, query, &answer)
+        self.search_both(scene, query, &answer)
     }
 
     /// Budgets around the count, small ones and large ones.
@@ -214,7 +215,7 @@ impl Case<'_> {
             if first == 15 {
                 self.note_wrong_lock("wrong locks, search", scene, &query.trip);
             }
-            self.judge.search(&scene.bytes, &query, &Answer::Refused(first))?;
+            self.search_both(scene, &query, &Answer::Refused(first))?;
             let sheet = match self.rng.below(4) {
                 0 => Vec::new(),
                 1 => self.damaged_sheet(scene, &query.trip, self.sheet.clone()),

@@ -1,5 +1,6 @@
 //! Counts what was reached, and says which class never was.
 
+use crate::change::CHANGES;
 use std::collections::BTreeMap;
 
 #[derive(Default)]
@@ -26,7 +27,7 @@ const WRONG_LOCKS: &[&str] = &[
 ];
 
 /// Classes of plans, searches and sheets that a whole run has to reach.
-const CLASSES: [(&str, &[&str]); 19] = [
+const CLASSES: [(&str, &[&str]); 24] = [
     ("junctions", &["1", "2..12", "13..255", "256", "257 (refused)"]),
     ("modes", &["11 (refused)"]),
     ("records", &["J + 1", "up to 100", "up to 255", "256", "257", "up to 2047", "2048", "2049 (refused)"]),
@@ -148,6 +149,59 @@ const CLASSES: [(&str, &[&str]); 19] = [
             "13 before 14",
         ],
     ),
+    (
+        "archive forms",
+        &[
+            "the plan itself",
+            "no record above the junctions",
+            "rules and no belts",
+            "2048 records",
+            "belts renumbered",
+            "belts of high cost renumbered",
+            "named belts renumbered",
+            "belts not in the order of their junctions",
+            "mode with the number of a renumbered belt",
+            "modes not in the order of their numbers",
+            "rule before a belt",
+            "literal before the belt that it names",
+            "first literal not behind its rule",
+            "rule between two literals of another",
+            "empty rule before another",
+            "empty rule at the end",
+        ],
+    ),
+    ("same archive form", &["same bytes", "rules and literals elsewhere"]),
+    (
+        "queries of archive forms",
+        &[
+            "sheet with other belts",
+            "same sheet",
+            "none",
+            "spent",
+            "refused with 8",
+            "refused with 15",
+            "refused with 9",
+            "refused with 10",
+        ],
+    ),
+    (
+        "out for an archive form",
+        &[
+            "empty",
+            "empty, and the plan too",
+            "one byte short",
+            "one record short",
+            "short",
+            "3072 bytes, and short",
+            "as long as the plan",
+            "long enough, under 3072 bytes",
+            "one byte more",
+            "one record more",
+            "more",
+            "70000 bytes",
+        ],
+    ),
+    ("another archive form by", &["layout with the belts in another order"]),
 ];
 
 impl Tally {
@@ -197,6 +251,13 @@ impl Tally {
         let searches = (0..=10).chain([15, 100, 101]);
         required.extend(searches.map(|number| ("answers of planner_search", number.to_string())));
         required.extend((0..=8).chain(11..=15).map(|number| ("answers of planner_check_sheet", number.to_string())));
+        required.extend((0..=7).chain([16]).map(|number| ("answers of planner_archive", number.to_string())));
+        required.extend(CHANGES.map(|(name, _)| ("another archive form by", name.to_string())));
+        required.push(("lines broken, archive form", "16 alone".to_string()));
+        for line in 1..=7 {
+            required.push(("lines broken, archive form", format!("{line} alone")));
+            required.push(("lines broken, archive form", format!("{line} before 16")));
+        }
         required.extend((0..=10).map(|modes| ("modes", modes.to_string())));
         for ending in ["route", "none", "spent"] {
             for (pick, order) in [(0, 0), (0, 1), (1, 0), (1, 1), (2, 0), (2, 1)] {

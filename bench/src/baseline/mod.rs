@@ -1,4 +1,5 @@
-//! The baseline: the same search in plain, safe Rust, from plan bytes to sheet.
+//! The baseline: the same search in plain, safe Rust, from plan bytes to sheet, and the
+//! same archive form.
 //!
 //! words      a belt in one word
 //! depot      the plan decoded into words by junction, and rules
@@ -6,7 +7,9 @@
 //! rules      the rule test and the lowest setting
 //! search     the stack of subproblems
 //! sheet      the route sheet
+//! archive    the archive form of a plan
 
+mod archive;
 mod depot;
 mod relax;
 mod rules;
@@ -19,6 +22,7 @@ mod words;
 use crate::check;
 use crate::query::{Answer, Query, NONE, ROUTE, SPENT};
 use crate::records::{Record, SHEET_MAX};
+pub use archive::archive;
 use depot::Depot;
 use search::{Ending, Search};
 

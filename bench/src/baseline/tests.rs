@@ -1,10 +1,11 @@
-//! The baseline against the scope paper's examples and refusals, and under locks.
+//! The baseline against the scope paper's examples and refusals, under locks, and
+//! against fixed archive forms.
 //! The numbers are written out here, so that both sides of the benchmark cannot
 //! agree on a wrong search.
 
-use crate::baseline::search;
+use crate::baseline::{archive, search};
 use crate::check;
-use crate::query::{Answer, Query, NONE, ROUTE, SPENT};
+use crate::query::{Answer, Query, NONE, ROUTE, SPENT, WRITTEN};
 use crate::records::{encode, Record, SHEET_MAX, SIZE};
 
 const P: [Record; 10] = [
@@ -268,6 +269,106 @@ fn named_belts_out_of_order() {
         expect_route(&plan, Query { pick, order, ..QUERY }, 5, &belt_6);
     }
     expect_no_route(&plan, Query { order: 1, budget: 4, ..QUERY }, SPENT, 4);
+}
+
+/// The plan has this archive form, and the form is its own.
+fn expect_form(plan: &[Record], form: &[Record]) {
+    let form = bytes(form);
+    for plan in [&bytes(plan), &form] {
+        let mut out = vec![0xEE; plan.len() + 30];
+        let answer = archive(plan, &mut out);
+        let length = plan.len() as u64;
+        assert_eq!(answer, Answer { number: WRITTEN, opened: 0, length });
+        assert_eq!(out[..plan.len()], form);
+        assert_eq!(out[plan.len()..], [0xEE; 30]);
+    }
+}
+
+/// Belts, rules and literals in all sorts of order.
+#[test]
+fn archive_forms() {
+    expect_form(&P, &P);
+    let mut shuffled = P;
+    shuffled[0][3] = 4;
+    shuffled[1][1] = 7;
+    shuffled[2][1] = 9;
+    shuffled[4..7].copy_from_slice(&[[3, 0, 5, 0, 0, 0], [4, 6, 0, 0, 7, 0], [4, 0, 0, 0, 9, 0]]);
+    shuffled[7..].copy_from_slice(&[[2, 8, 2, 3, 0, 0], [2, 0, 3, 9, 0, 0], [2, 0, 3, 4, 0, 0]]);
+    expect_form(&shuffled, &P);
+    let interleaved = [
+        [7, 3, 2, 4, 13, 0],
+        [1, 5, 0, 0, 0, 0],
+        [1, 12, 0, 0, 0, 0],
+        [1, 0, 0, 0, 0, 0],
+        [3, 6, 8, 0, 0, 0],
+        [2, 9, 2, 3, 0, 0],
+        [3, 0, 7, 0, 0, 0],
+        [4, 0, 1, 1, 2, 0],
+        [4, 10, 0, 0, 12, 0],
+        [2, 0, 3, 9, 0, 0],
+        [4, 11, 1, 1, 1, 0],
+        [4, 0, 0, 0, 5, 0],
+        [2, 0, 3, 4, 0, 0],
+    ];
+    let mut form = with_rules(&[
+        [3, 11, 8, 0, 0, 0],
+        [4, 9, 0, 0, 6, 0],
+        [4, 10, 1, 1, 1, 0],
+        [4, 0, 0, 0, 4, 0],
+        [3, 0, 12, 0, 0, 0],
+        [4, 0, 1, 1, 2, 0],
+    ]);
+    form[0][2] = 2;
+    expect_form(&interleaved, &form);
+    let empty_rules = with_rules(&[[3, 8, 0, 0, 0, 0], [3, 0, 0, 0, 0, 0]]);
+    expect_form(&empty_rules, &empty_rules);
+    expect_form(&dearest_row(255), &dearest_row(255));
+}
+
+/// Belts stand by index, and not by the junctions that they leave.
+#[test]
+fn belts_by_index() {
+    let plan = [
+        [7, 3, 0, 4, 8, 0],
+        [1, 7, 0, 0, 0, 0],
+        [1, 5, 0, 0, 0, 0],
+        [1, 0, 0, 0, 0, 0],
+        [3, 0, 6, 0, 0, 0],
+        [2, 0, 3, 4, 9, 0],
+        [4, 0, 1, 0, 7, 0],
+        [2, 0, 2, 3, 0, 0],
+    ];
+    let form = [
+        [7, 3, 0, 6, 8, 0],
+        [1, 5, 0, 0, 0, 0],
+        [1, 4, 0, 0, 0, 0],
+        [1, 0, 0, 0, 0, 0],
+        [2, 0, 3, 4, 9, 0],
+        [2, 0, 2, 3, 0, 0],
+        [3, 0, 7, 0, 0, 0],
+        [4, 0, 1, 0, 5, 0],
+    ];
+    expect_form(&plan, &form);
+}
+
+/// Lines 1 to 7, and then 16: out shorter than the plan.
+#[test]
+fn archive_refusals() {
+    let number = |plan: &[u8], room: usize| {
+        let mut out = vec![0xEE; room];
+        let answer = archive(plan, &mut out);
+        if answer.number != WRITTEN {
+            assert_eq!((answer.length, out), (0, vec![0xEE; room]));
+        }
+        answer.number
+    };
+    let mut broken = P;
+    broken[9][4] = 7;
+    for room in [0, 119, 120] {
+        assert_eq!(number(&bytes(&broken), room), 6);
+        assert_eq!(number(&bytes(&P), room), if room < 120 { 16 } else { WRITTEN });
+    }
+    assert_eq!(number(&[], 0), 1);
 }
 
 #[test]

@@ -6,6 +6,7 @@
 //   status      which file a descriptor is open on
 //   saving      files that are written whole or not at all
 //   sheets      the file that a route sheet is written to, so that nothing is lost
+//   plans       the file that the archive form of a plan is written to, so that nothing is lost
 //   paths       names of files, put together and followed along links
 //   refusals    the words of the refusal table
 //   version     which version of the planner a program is of
@@ -15,6 +16,7 @@ pub mod arguments;
 pub mod decimal;
 pub mod files;
 mod paths;
+pub mod plans;
 pub mod refusals;
 mod saving;
 pub mod sheets;

@@ -141,7 +141,7 @@ pub fn temporary(path: &[u8]) -> Path
     ensures { λ v. ⌜ Fits (v .size) (v .bytes) ⌝ }
 {
     let drawn = letters();
-    append(append(beside(path, b".sheet-"), &drawn), b".tmp")
+    append(append(beside(path, b".planner-"), &drawn), b".tmp")
 }
 
 // The name of the folder itself.

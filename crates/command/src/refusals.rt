@@ -56,6 +56,7 @@ fn put_cause(room: &mut Room, gathered: Gathered, r: Refusal) -> Gathered {
             gathered,
             b"mask with a bit at or above M, or a value with a bit outside the mask\n",
         ),
+        Refusal::ShortPlanBuffer => put(room, gathered, b"out buffer shorter than the plan\n"),
     }
 }
 
@@ -67,6 +68,16 @@ pub fn print_refused(r: Refusal) {
     let colon = put(&mut room, said, b": ");
     let all = put_cause(&mut room, colon, r);
     output::finish(&room, all);
+}
+
+// Prints that something is refused, with the number of the line alone, and says the cause on standard error.
+pub fn print_number(r: Refusal) {
+    let mut room = io::large_buffer();
+    let number = refusal::number(r) as u64;
+    let said = put_number(&mut room, output::nothing(), b"refused ", number);
+    let all = put(&mut room, said, b"\n");
+    output::finish(&room, all);
+    tell_cause(r);
 }
 
 // Says the cause on standard error.

@@ -13,7 +13,7 @@ use mathlib.Core.List.{List, [], _∷_}
 use Prim.Native.Nat.{ℕ, zero, suc}
 use native.Mathlib.Omega.{arith}
 use Rattle.plan.specs.declared.refusal.Refusal.{Refusal}
-use Rattle.plan.specs.declared.refusal.Refusal.the-variants.{WrongSize, WrongHeader, WrongRecord, WrongChain, BackwardBelt, WrongLiteral, ManyNamed, WrongEnds, WrongQuery, ShortBuffer, WrongSheet, NotARoute, WrongCost, UnmetRule, WrongLock}
+use Rattle.plan.specs.declared.refusal.Refusal.the-variants.{WrongSize, WrongHeader, WrongRecord, WrongChain, BackwardBelt, WrongLiteral, ManyNamed, WrongEnds, WrongQuery, ShortBuffer, WrongSheet, NotARoute, WrongCost, UnmetRule, WrongLock, ShortPlanBuffer}
 use Rattle.plan.specs.Refusals.{refusalNumber}
 use Rattle.plan.specs.Claims.{DistinctClaim, NonzeroClaim}
 
@@ -34,6 +34,7 @@ table =
     ∷ WrongCost
     ∷ UnmetRule
     ∷ WrongLock
+    ∷ ShortPlanBuffer
     ∷ []
 
 abbrev nth : List Refusal → ℕ → Option Refusal
@@ -61,6 +62,7 @@ found NotARoute = refl
 found WrongCost = refl
 found UnmetRule = refl
 found WrongLock = refl
+found ShortPlanBuffer = refl
 
 pub distinct : DistinctClaim
 distinct r s e = let same : some r ≡ some s = sym (found r) ∙ ap refusalAt e ∙ found s in cc

@@ -8,7 +8,7 @@
 --   DistinctClaim     two cases of the code's refusals with the same number are the same case
 --   NonzeroClaim      no case has the number 0, which says that nothing is refused
 --
--- The first two are about ALL lists of bytes, the others about all 15 lines of the table. Assumes nothing.
+-- The first two are about ALL lists of bytes, the others about all 16 lines of the table. Assumes nothing.
 use mathlib.Core.Path.{_≡_}
 use mathlib.Core.Bool.{true, false}
 use mathlib.Core.Logic.{_⊎_, _↔_}

@@ -12,7 +12,7 @@
 --   planLines                lines 1 to 7, in the order in which they count
 --   firstBroken ls a         the number of the first line of ls that a breaks, or 0
 --   refusal b                that of planLines: "the lower number wins over the whole plan"
---   refusalNumber r          the number of the line for each case of the code's refusals, of all 15 lines (src/refusal.rt)
+--   refusalNumber r          the number of the line for each case of the code's refusals, of all 16 lines (src/refusal.rt)
 --   numberOf v               that of the check's answer, 0 where it is accepted
 --
 -- A sentence means what the paper says where the lines before it are unbroken; elsewhere it decides nothing.
@@ -25,7 +25,7 @@ use lib.Dec.{eqb, leb, ltb}
 use Rattle.plan.specs.declared.check.Verdict.{Verdict}
 use Rattle.plan.specs.declared.check.Verdict.the-variants.{Accepted, Refused}
 use Rattle.plan.specs.declared.refusal.Refusal.{Refusal}
-use Rattle.plan.specs.declared.refusal.Refusal.the-variants.{WrongSize, WrongHeader, WrongRecord, WrongChain, BackwardBelt, WrongLiteral, ManyNamed, WrongEnds, WrongQuery, ShortBuffer, WrongSheet, NotARoute, WrongCost, UnmetRule, WrongLock}
+use Rattle.plan.specs.declared.refusal.Refusal.the-variants.{WrongSize, WrongHeader, WrongRecord, WrongChain, BackwardBelt, WrongLiteral, ManyNamed, WrongEnds, WrongQuery, ShortBuffer, WrongSheet, NotARoute, WrongCost, UnmetRule, WrongLock, ShortPlanBuffer}
 use Rattle.plan.specs.Lists.{any, count, mem, upto, within}
 use Rattle.plan.specs.Bounds.{recordBytes, minPlanBytes, maxPlanBytes, maxNamed}
 use Rattle.plan.specs.Records.{field, kind, junctions, modes, records, fits, Link, links, chain}
@@ -142,6 +142,7 @@ refusalNumber NotARoute = 12
 refusalNumber WrongCost = 13
 refusalNumber UnmetRule = 14
 refusalNumber WrongLock = 15
+refusalNumber ShortPlanBuffer = 16
 
 abbrev pub numberOf : Verdict → ℕ
 numberOf Accepted = 0

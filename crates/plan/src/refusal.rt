@@ -34,6 +34,8 @@ pub enum Refusal {
     UnmetRule,
     // 15: the mask of the lock has a mode that is not there, or its values have a mode outside the mask.
     WrongLock,
+    // 16: the out buffer for a plan is shorter than the plan.
+    ShortPlanBuffer,
 }
 
 // The line's number in the table.
@@ -56,5 +58,6 @@ pub fn number(r: Refusal) -> u8
         Refusal::WrongCost => 13,
         Refusal::UnmetRule => 14,
         Refusal::WrongLock => 15,
+        Refusal::ShortPlanBuffer => 16,
     }
 }

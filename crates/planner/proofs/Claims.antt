@@ -1,5 +1,5 @@
--- The claims of specs/Claims.antt hold. The one idea: no request pauses, and a refusal has a number from 1 to 10 or 15, so that each number
--- belongs to one kind of outcome.
+-- The claims of specs/Claims.antt hold; that on archive forms is proved in ArchiveTells. The one idea: no request pauses, and a refusal has a
+-- number from 1 to 10 or 15, so that each number belongs to one kind of outcome.
 --
 --   not-paused        no request comes to paused
 --   zero-route, hundred-none, hundred-one-spent, other-refused
@@ -30,6 +30,7 @@ use Rattle.search.proofs.AnswerReply.{outcome-by}
 use Rattle.planner.specs.declared.PlannerQuery.{PlannerQuery}
 use Rattle.planner.specs.Interface.{tripOf, queryOf, callOf, toCaller}
 use Rattle.planner.specs.Claims.{IsFound, IsNone, TellsClaim, IgnoresClaim, Claims}
+use Rattle.planner.proofs.ArchiveTells.{archive-claim}
 
 -- ---- what a number tells
 
@@ -164,4 +165,4 @@ ignores-claim b q r s t mask values =
     )
 
 pub claims : Claims
-claims = record { tells = tells-claim; ignores = ignores-claim }
+claims = record { tells = tells-claim; archive = archive-claim; ignores = ignores-claim }

@@ -1,11 +1,15 @@
 -- What is claimed of the C interface, as types; proofs/Claims.antt proves them all. The contracts of src/lib.rt say that a reply, and every byte
--- of the out buffer, are what `outcome` gives, and that the answer about a sheet is `sheetRefusal`; these say what a caller can tell by them.
+-- of the out buffer, are what `outcome` gives, or for an archive form `archiveReply` and `archiveAfter`, and that the answer about a sheet is
+-- `sheetRefusal`; these say what a caller can tell by them.
 --
 --   replyIn b q out   the reply to the query q about the plan b, with the out buffer out; outIn b q out: the out buffer afterwards
 --   IsFound o         an outcome is a route; IsNone o: it is none
 --   Tells k out v after
 --                     what the reply v and the buffer after tell of the request k, whose out buffer was out: each sentence in its own field
 --   TellsClaim        every reply tells this, with the out buffer
+--   ArchiveTells b out v after
+--                     what the reply v and the buffer after tell of a call for the archive form of the plan b, whose out buffer was out
+--   ArchiveClaim      every reply to such a call tells this, with the out buffer
 --   IgnoresClaim      what is not looked at changes nothing: whatever minute is, the reply and the out buffer are the same, and whatever is beside
 --                     s, t, mask and values, the answer about a sheet is
 --
@@ -15,16 +19,18 @@ use mathlib.Core.Logic.{_⊎_, _↔_}
 use Prim.Native.Nat.{ℕ, _≤_}
 use mathlib.Core.List.{List}
 use lib.ListN.{length, take, drop}
+use Rattle.plan.specs.Refusals.{refusal}
 use Rattle.plan.specs.Reading.{Bytes}
-use Rattle.plan.specs.Claims.{FirstIn}
+use Rattle.plan.specs.Claims.{Unbroken, FirstIn}
 use Rattle.route.specs.Sheets.{sheetOf}
 use Rattle.route.specs.Refusals.{sheetRefusal}
 use Rattle.route.specs.Values.{caseOf}
 use Rattle.search.specs.Answers.{Request, searchLines, Outcome, route, nothing, outcome, replyTo, outAfter}
 use Rattle.search.specs.Claims.{IsSpent, openedOf}
+use Rattle.archive.specs.Answers.{lentOf, archiveLines, archiveIn, archiveAfter}
 use Rattle.planner.specs.declared.PlannerQuery.{PlannerQuery}
 use Rattle.planner.specs.declared.PlannerReply.{PlannerReply}
-use Rattle.planner.specs.Interface.{tripOf, callOf, toCaller}
+use Rattle.planner.specs.Interface.{tripOf, callOf, toCaller, archiveReply}
 
 abbrev pub replyIn : List ℕ → PlannerQuery → List ℕ → PlannerReply
 replyIn b q out = toCaller (replyTo (outcome (callOf b q out)))
@@ -62,6 +68,27 @@ pub record Tells (k : Request) (out : List ℕ) (v : PlannerReply) (after : List
 abbrev pub TellsClaim : Type 0
 TellsClaim = (b : List ℕ) (q : PlannerQuery) (out : List ℕ) → Tells (callOf b q out) out (replyIn b q out) (outIn b q out)
 
+pub record ArchiveTells (b out : List ℕ) (v : PlannerReply) (after : List ℕ) : Type 0 where
+  -- the number is 0 exactly where no line is broken, and any other number n exactly where n is that of the first broken line
+  pub zero : (v .number ≡ 0) ↔ Unbroken archiveLines (lentOf b out)
+  pub other : (n : ℕ) → (n ≡ 0 → ⊥) → (v .number ≡ n) ↔ FirstIn archiveLines (lentOf b out) n
+  -- and there are no others: those of the plan, and 16
+  pub among : (v .number ≤ 7) ⊎ (v .number ≡ 16)
+  -- nothing is opened and no tests are counted
+  pub opened : v .opened ≡ 0
+  pub tests : v .tests ≡ 0
+  -- with 0 the length is that of the plan, and of its archive form, which stands at the start of the buffer; behind it no byte differs
+  pub written : Bytes b → v .number ≡ 0
+      → (v .length ≡ length b) × (take (v .length) after ≡ archiveIn b) × (drop (v .length) after ≡ drop (v .length) out)
+  -- what stands there is accepted as a plan, and is its own archive form
+  pub accepted : Bytes b → v .number ≡ 0 → refusal (take (v .length) after) ≡ 0
+  pub again : Bytes b → v .number ≡ 0 → archiveIn (take (v .length) after) ≡ take (v .length) after
+  -- with any other number the length is 0, and every byte of the buffer is as it was
+  pub kept : (v .number ≡ 0 → ⊥) → (v .length ≡ 0) × (after ≡ out)
+
+abbrev pub ArchiveClaim : Type 0
+ArchiveClaim = (b out : List ℕ) → ArchiveTells b out (archiveReply (lentOf b out)) (archiveAfter (lentOf b out) out)
+
 abbrev pub IgnoresClaim : Type 0
 IgnoresClaim = (b : List ℕ) (q r : PlannerQuery) → q .s ≡ r .s → q .t ≡ r .t → q .mask ≡ r .mask → q .values ≡ r .values
     → (q .pick ≡ r .pick → q .order ≡ r .order → q .budget ≡ r .budget
@@ -71,4 +98,5 @@ IgnoresClaim = (b : List ℕ) (q r : PlannerQuery) → q .s ≡ r .s → q .t �
 -- all of them
 pub record Claims : Type 0 where
   pub tells : TellsClaim
+  pub archive : ArchiveClaim
   pub ignores : IgnoresClaim
