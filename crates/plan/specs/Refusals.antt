@@ -25,7 +25,9 @@ use lib.Dec.{eqb, leb, ltb}
 use Rattle.plan.specs.declared.check.Verdict.{Verdict}
 use Rattle.plan.specs.declared.check.Verdict.the-variants.{Accepted, Refused}
 use Rattle.plan.specs.declared.refusal.Refusal.{Refusal}
-use Rattle.plan.specs.declared.refusal.Refusal.the-variants.{WrongSize, WrongHeader, WrongRecord, WrongChain, BackwardBelt, WrongLiteral, ManyNamed, WrongEnds, WrongQuery, ShortBuffer, WrongSheet, NotARoute, WrongCost, UnmetRule, WrongLock, ShortPlanBuffer}
+use Rattle.plan.specs.declared.refusal.Refusal.the-variants.{WrongSize, WrongHeader, WrongRecord, WrongChain, BackwardBelt, WrongLiteral, ManyNamed}
+use Rattle.plan.specs.declared.refusal.Refusal.the-variants.{WrongEnds, WrongQuery, ShortBuffer, WrongSheet, NotARoute, WrongCost}
+use Rattle.plan.specs.declared.refusal.Refusal.the-variants.{UnmetRule, WrongLock, ShortPlanBuffer}
 use Rattle.plan.specs.Lists.{any, count, mem, upto, within}
 use Rattle.plan.specs.Bounds.{recordBytes, minPlanBytes, maxPlanBytes, maxNamed}
 use Rattle.plan.specs.Records.{field, kind, junctions, modes, records, fits, Link, links, chain}
