@@ -91,11 +91,13 @@ module _ {next : ℕ → ℕ} {Ok : ℕ → Type 0} where
   -- a chain with a member does not start at zero
   not_zero : {i e : ℕ} {xs : List ℕ} → From next Ok i xs → Memᴰ e xs → i ≡ 0 → ⊥
   not_zero (on p o u r) m z = omega arith
+  not_zero {e = e} done m z = elim m [ ]
 
   -- a member is Ok, and not below the head
   pub from_in : {i e : ℕ} {xs : List ℕ} → From next Ok i xs → Memᴰ e xs → (i ≤ e) × Ok e
   from_in (on p o u r) (Memᴰ.head q) = (omega arith, subst Ok (sym q) o)
   from_in (on p o u r) (Memᴰ.tail m) = let k = from_in r m in (omega (arith, k.0, u (not_zero r m)), k.1)
+  from_in {e = e} done x4 = elim x4 [ ]
 
   -- a whole chain rises
   pub from_rises : {i : ℕ} {xs : List ℕ} → From next Ok i xs → Rises xs
@@ -112,6 +114,7 @@ module _ {next : ℕ → ℕ} {Ok : ℕ → Type 0} where
   from_next (on {xs = xs} p o u r) (Memᴰ.head q) d =
       Memᴰ.tail (subst (λ (k : ℕ). Memᴰ k xs) (ap next (sym q)) (from_head r (λ z. d (ap next q ∙ z))))
   from_next (on p o u r) (Memᴰ.tail m) d = Memᴰ.tail (from_next r m d)
+  from_next {e = e} done x7 d = elim x7 [ ]
 
   -- what stands on a chain is its head or comes next after something on it
   pub from_cases : {i e : ℕ} {xs : List ℕ} → From next Ok i xs → Memᴰ e xs → (i ≡ e) ⊎ ((x : ℕ) × Memᴰ x xs × (next x ≡ e))
@@ -121,6 +124,7 @@ module _ {next : ℕ → ℕ} {Ok : ℕ → Type 0} where
       go : (next i ≡ e) ⊎ ((x : ℕ) × Memᴰ x xs × (next x ≡ e)) → (i ≡ e) ⊎ ((x : ℕ) × Memᴰ x (i ∷ xs) × (next x ≡ e))
       go (inl q) = inr (i, Memᴰ.head refl, q)
       go (inr x) = inr (x.0, Memᴰ.tail x.1, x.2)
+  from_cases {e = e} done x4 = elim x4 [ ]
 
   -- there is one whole chain from i on
   pub from_once : {i : ℕ} {xs ys : List ℕ} → From next Ok i xs → From next Ok i ys → xs ≡ ys

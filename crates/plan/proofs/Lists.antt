@@ -112,7 +112,7 @@ module _ {A : Type 0} (f : A → Bool) where
   all_in [] h m = absurd (Memᴰ.not-nil m)
   all_in {a} (x ∷ xs) h m =
       let (first, rest) = both (f x) (all f xs) h in
-      each (λ (b : A). f b ≡ true) first (λ b k. all_in xs rest k) a m
+      each (λ (b : A). f b ≡ true) first (λ b k. all_in {a = b} xs rest k) a m
 
   pub all_is : (xs : List A) → ((a : A) → Memᴰ a xs → f a ≡ true) → all f xs ≡ true
   all_is [] h = refl
@@ -122,7 +122,7 @@ module _ {A : Type 0} (f : A → Bool) where
   any_none [] h m = absurd (Memᴰ.not-nil m)
   any_none {a} (x ∷ xs) h m =
       let (first, rest) = neither (f x) (any f xs) h in
-      each (λ (b : A). f b ≡ false) first (λ b k. any_none xs rest k) a m
+      each (λ (b : A). f b ≡ false) first (λ b k. any_none {a = b} xs rest k) a m
 
   pub none_any : (xs : List A) → ((a : A) → Memᴰ a xs → f a ≡ false) → any f xs ≡ false
   none_any [] h = refl

@@ -81,6 +81,7 @@ at_place e (more {x} {xs} h r) (Memᴰ.tail m) =
     let k : count_by (ltb x e) (count (λ (n : ℕ). ltb n e) xs) ≡ suc (count (λ (n : ℕ). ltb n e) xs) = ap (λ (t : Bool). count_by t (count (λ (n : ℕ). ltb n e) xs)) (lt-ltb x e (h e m)) in
     let below = at_place e r m in
     (ap (λ (i : ℕ). get_or (x ∷ xs) i 0) k ∙ below.0, omega (arith, below.1))
+at_place e none x3 = elim x3 [ ]
 
 -- every number below their count is the place of one of them
 pub place_at : {ns : List ℕ} → Rises ns → (k : ℕ) → k < length ns → (e : ℕ) × Memᴰ e ns × (count (λ (n : ℕ). ltb n e) ns ≡ k)

@@ -29,7 +29,7 @@ use mathlib.Core.List.{List, [], ◌∷◌, ◌++◌, map, Memᴰ, append-nil, a
 use native.Mathlib.Omega.{arith}
 use native.Mathlib.Nat.{eq-or-lt_of_le}
 use lib.ListN.{length, get_or, length-append, length-map, get_or-append}
-use lib.Dec.{eqb, ltb}
+use lib.Dec.{eqb}
 use Rattle.plan.specs.Bounds.{max_junctions, max_named, junction_places}
 use Rattle.plan.specs.Lists.{keep_by, keep, upto}
 use Rattle.plan.specs.Plan.{Belt, Plan, plan_of, indices_of, leaving, named}

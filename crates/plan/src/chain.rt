@@ -43,7 +43,7 @@ fn follow_index(p: &[u8], seen: &mut [u8], n: usize, r: usize, i: usize, want: u
 }
 
 // A chain field: its number, and the kind of record that it leads to.
-#[derive(Drop)]
+#[derive(Clone, Copy)]
 struct Target(usize, u16);
 
 // Whether what record r holds in a chain field is wrong; marks the record that it leads to.

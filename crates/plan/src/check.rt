@@ -6,7 +6,7 @@ use crate::refusal::Refusal;
 use crate::{belts, chain, form, notes, refusal};
 
 // What the check of a plan answers: accepted, or refused by the first broken one of lines 1 to 7.
-#[derive(Drop)]
+#[derive(Clone, Copy)]
 pub enum Verdict {
     Accepted,
     Refused(Refusal),

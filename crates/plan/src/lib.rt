@@ -12,6 +12,8 @@
 //   read     readers of an accepted plan
 //   named    its named belts, and their places
 //   words    its belts as words, by the junction that they leave
+#![tactic(auto)]
+
 mod belts;
 pub mod bounds;
 mod chain;

@@ -9,14 +9,14 @@ use crate::read::BeltId;
 use crate::{notes, record};
 
 // The named belts in rising order; the rest of the array is BeltId(0).
-#[derive(Drop)]
+#[derive(Clone, Copy)]
 pub struct Named {
     pub count: usize,
     pub belts: [BeltId; MAX_NAMED],
 }
 
 // The place of a belt among the named belts, counted from 0.
-#[derive(Drop)]
+#[derive(Clone, Copy)]
 pub enum Place {
     At(usize),
     Unnamed,

@@ -11,23 +11,23 @@ use crate::record;
 use crate::record::BELT;
 
 // A belt's index: the index of its record.
-#[derive(Drop)]
+#[derive(Clone, Copy)]
 pub struct BeltId(pub u16);
 
 // A mode's number, from 1.
-#[derive(Drop)]
+#[derive(Clone, Copy)]
 pub struct ModeId(pub u16);
 
 // A rule: the index of its record.
-#[derive(Drop)]
+#[derive(Clone, Copy)]
 pub struct RuleId(pub u16);
 
 // A literal: the index of its record.
-#[derive(Drop)]
+#[derive(Clone, Copy)]
 pub struct LiteralId(pub u16);
 
 // What a literal says: a belt or a mode, and whether it is wanted.
-#[derive(Drop)]
+#[derive(Clone, Copy)]
 pub enum Literal {
     OfBelt(BeltId, bool),
     OfMode(ModeId, bool),

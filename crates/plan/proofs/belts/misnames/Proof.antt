@@ -10,19 +10,19 @@ use Rattle.plan.proofs.belts.misnames.Tie as tie
 field-requires : tie.Need-field-requires
 field-requires c κs = search rules
 
-returns : tie.Need-returns
+returns : tie.Need-returns-then-field-ne-LITERAL
 returns c =
     let a = c.before.before.before.args in
-    sym (ap (λ t. t && not (literal_fits a.p.now a.l)) (ne_eqb _ 4 (λ e. c.if1.true (c.before.field.ensures ∙ e))))
+    sym (ap (λ t. t && not (literal_fits a.p.now a.l)) (ne_eqb _ 4 (λ e. c.if-field-ne-LITERAL.true (c.before.field.ensures ∙ e))))
 
-literal-fits-requires : tie.Need-literal-fits-requires
+literal-fits-requires : tie.Need-literal_fits-requires
 literal-fits-requires c κs = search rules
 
-returns-2 : tie.Need-returns-2
+returns-2 : tie.Need-returns
 returns-2 c =
     let a = c.before.before.before.before.args in
     ap not c.literal_fits.ensures
-    ∙ sym (ap (λ t. t && not (literal_fits a.p.now a.l)) (eq-eqb _ 4 (sym c.before.before.field.ensures ∙ c.before.if1.false)))
+    ∙ sym (ap (λ t. t && not (literal_fits a.p.now a.l)) (eq-eqb _ 4 (sym c.before.before.field.ensures ∙ c.before.if-field-ne-LITERAL.false)))
 
 pub misnames_spec : {M : Type 1} → statement M
 misnames_spec =

@@ -10,11 +10,11 @@ more : (m : ℕ) → (m ≡ 0 → ⊥) → bump m ≡ 2
 more zero h = absurd (h refl)
 more (suc m) h = refl
 
-returns : tie.Need-returns
+returns : tie.Need-returns-then-mark-eq0
 returns c = search rules
 
-returns-2 : tie.Need-returns-2
-returns-2 c = sym (more _ c.if1.false)
+returns-2 : tie.Need-returns-else-mark-eq0
+returns-2 c = sym (more _ c.if-mark-eq0.false)
 
 pub bump_spec : {M : Type 1} → statement M
 bump_spec = tie.close (tie.spec returns returns-2)

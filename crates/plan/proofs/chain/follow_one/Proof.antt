@@ -10,10 +10,10 @@ use Rattle.plan.proofs.chain.follow_one.Tie as tie
 index-requires : tie.Need-index-requires
 index-requires c κs = search rules
 
-follow-index-requires : tie.Need-follow-index-requires
+follow-index-requires : tie.Need-follow_index-requires
 follow-index-requires c κs = search rules
 
-same_length : tie.Need-same-length
+same_length : tie.Need-shape_of-seen
 same_length c = search rules
 
 returns : tie.Need-returns
@@ -21,7 +21,7 @@ returns c =
     let called = c.before.before in
     let a = called.before.before.before.before.before.args in
     let e = ap (λ i. link_to a.r i a.t.1) called.before.index.ensures.0 ∙ one_link a.p.now a.r a.t.0 a.t.1 in
-    followed_as a.p.now a.seen.now called.follow-index.new.1.0 _ _ e called.follow-index.ensures
+    followed_as a.p.now a.seen.now called.follow_index.new.seen _ _ e called.follow_index.ensures
 
 pub follow_one_spec : {M : Type 1} → statement M
 follow_one_spec = tie.close (tie.spec index-requires follow-index-requires same_length returns)

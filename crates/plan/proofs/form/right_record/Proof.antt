@@ -16,64 +16,64 @@ use Rattle.plan.proofs.form.right_record.Tie as tie
 decides : (p : List ℕ) (r : ℕ) {v : Bool} → right_kind p r ≡ true → v ≡ fits p r → v ≡ (right_kind p r && fits p r)
 decides p r k e = e ∙ ap (λ t. t && fits p r) (sym k)
 
-field-requires : tie.Need-field-requires
+field-requires : tie.Need-field-kind-requires
 field-requires c κs = search rules
 
 fits-requires : tie.Need-fits-requires
 fits-requires c κs = search rules
 
-returns : tie.Need-returns
+returns : tie.Need-returns-then-kind-eq-JUNCTION
 returns c =
     let first = c.before.before.before in
     let a = first.before.before.args in
-    let k : kind a.p.now a.r ≡ 1 = sym first.field.ensures ∙ c.before.if2.true in
-    decides a.p.now a.r (kind_low a.p.now a.r (omega arith) ∙ rw k) c.fits2.ensures
+    let k : kind a.p.now a.r ≡ 1 = sym first.field-kind.ensures ∙ c.before.if-kind-eq-JUNCTION.true in
+    decides a.p.now a.r (kind_low a.p.now a.r (omega arith) ∙ rw k) c.fits.ensures
 
-returns-2 : tie.Need-returns-2
+returns-2 : tie.Need-returns-else-kind-eq-JUNCTION
 returns-2 c =
     let first = c.before.before in
     let a = first.before.before.args in
-    let k = ne_eqb (kind a.p.now a.r) 1 (λ e. c.if2.false (first.field.ensures ∙ e)) in
+    let k = ne_eqb (kind a.p.now a.r) 1 (λ e. c.if-kind-eq-JUNCTION.false (first.field-kind.ensures ∙ e)) in
     let wrong : right_kind a.p.now a.r ≡ false = kind_low a.p.now a.r (omega arith) ∙ rw k in
-    ne_eqb first.field.result 1 c.if2.false ∙ sym (ap (λ t. t && fits a.p.now a.r) wrong)
+    ne_eqb first.field-kind.result 1 c.if-kind-eq-JUNCTION.false ∙ sym (ap (λ t. t && fits a.p.now a.r) wrong)
 
-fits-requires-2 : tie.Need-fits-requires-2
+fits-requires-2 : tie.Need-fits-requires-in-2
 fits-requires-2 c κs = search rules
 
-fits-requires-3 : tie.Need-fits-requires-3
+fits-requires-3 : tie.Need-fits-requires-in-3
 fits-requires-3 c κs = search rules
 
-fits-requires-4 : tie.Need-fits-requires-4
+fits-requires-4 : tie.Need-fits-requires-in-4
 fits-requires-4 c κs = search rules
 
-returns-3 : tie.Need-returns-3
+returns-3 : tie.Need-returns-in-2
 returns-3 c =
     let first = c.before.before.before in
     let a = first.before.before.args in
-    let k : kind a.p.now a.r ≡ 2 = sym first.field.ensures ∙ c.before.match.keys1 in
-    decides a.p.now a.r (kind_high a.p.now a.r (omega arith) ∙ rw k) c.fits3.ensures
+    let k : kind a.p.now a.r ≡ 2 = sym first.field-kind.ensures ∙ c.before.in-2.is in
+    decides a.p.now a.r (kind_high a.p.now a.r (omega arith) ∙ rw k) c.fits-in-2.ensures
 
-returns-4 : tie.Need-returns-4
+returns-4 : tie.Need-returns-in-3
 returns-4 c =
     let first = c.before.before.before in
     let a = first.before.before.args in
-    let k : kind a.p.now a.r ≡ 3 = sym first.field.ensures ∙ c.before.match.keys2 in
-    decides a.p.now a.r (kind_high a.p.now a.r (omega arith) ∙ rw k) c.fits4.ensures
+    let k : kind a.p.now a.r ≡ 3 = sym first.field-kind.ensures ∙ c.before.in-3.is in
+    decides a.p.now a.r (kind_high a.p.now a.r (omega arith) ∙ rw k) c.fits-in-3.ensures
 
-returns-5 : tie.Need-returns-5
+returns-5 : tie.Need-returns-in-4
 returns-5 c =
     let first = c.before.before.before in
     let a = first.before.before.args in
-    let k : kind a.p.now a.r ≡ 4 = sym first.field.ensures ∙ c.before.match.keys3 in
-    decides a.p.now a.r (kind_high a.p.now a.r (omega arith) ∙ rw k) c.fits5.ensures
+    let k : kind a.p.now a.r ≡ 4 = sym first.field-kind.ensures ∙ c.before.in-4.is in
+    decides a.p.now a.r (kind_high a.p.now a.r (omega arith) ∙ rw k) c.fits-in-4.ensures
 
-returns-6 : tie.Need-returns-6
+returns-6 : tie.Need-returns-in_default
 returns-6 c =
     let first = c.before.before in
     let a = first.before.before.args in
     let k = kind a.p.now a.r in
-    let e = first.field.ensures in
-    let rest = c.match.rest in
+    let e = first.field-kind.ensures in
+    let rest = c.in_default.in_default-own.rest in
     let wrong : right_kind a.p.now a.r ≡ false =
     kind_high a.p.now a.r (omega arith)
     ∙ rw (ne_eqb k 2 (λ h. rest.0.0.1 (e ∙ h)), ne_eqb k 3 (λ h. rest.0.1 (e ∙ h)), ne_eqb k 4 (λ h. rest.1 (e ∙ h))) in

@@ -3,11 +3,10 @@ use mathlib.Core.Path.{◌≡◌, sym, ◌∙◌}
 use mathlib.Core.Bool.{false, not}
 use Prim.Native.Nat.{ℕ, ◌≤◌}
 use mathlib.Core.List.{List}
-use borrow.Author.Tests.{eq-eqb, ne_eqb, not-true, not-false}
+use borrow.Author.Tests.{eq-eqb, ne_eqb}
 use native.Mathlib.Omega.{arith}
 use lib.ListN.{length}
 use lib.Dec.{ltb}
-use Rattle.plan.specs.Records.{field}
 use Rattle.plan.specs.Refusals.{broken1, broken2}
 use Rattle.plan.proofs.Lists.{leb_not}
 use Rattle.plan.proofs.LineForms.{sized}
@@ -21,33 +20,33 @@ room p h = let s = sized p h in omega arith
 field-requires : tie.Need-field-requires
 field-requires c κs = (omega arith, room _ c.before.requires)
 
-returns : tie.Need-returns
+returns : tie.Need-returns-then-field-ne-HEADER
 unfolding broken2
-returns c = rw (ne_eqb _ 7 (λ e. c.if1.true (c.before.field.ensures ∙ e)))
+returns c = rw (ne_eqb _ 7 (λ e. c.if-field-ne-HEADER.true (c.before.field.ensures ∙ e)))
 
-field-requires-2 : tie.Need-field-requires-2
+field-requires-2 : tie.Need-field-junctions-requires
 field-requires-2 c κs = (omega arith, room _ c.before.before.before.requires)
 
 fits-requires : tie.Need-fits-requires
 fits-requires c κs =
     let first = c.before in
-    (c.field2.ensures, sym first.if1.false ∙ first.before.field.ensures, room _ first.before.before.before.requires)
+    (c.field-junctions.ensures, sym first.if-field-ne-HEADER.false ∙ first.before.field.ensures, room _ first.before.before.before.requires)
 
-returns-2 : tie.Need-returns-2
+returns-2 : tie.Need-returns-then-not-fits
 unfolding broken2
 returns-2 c =
     let first = c.before.before.before in
-    rw (eq-eqb _ 7 (sym first.before.field.ensures ∙ first.if1.false), ← c.before.fits2.ensures, not-true c.before.fits2.result c.if2.true)
+    rw (eq-eqb _ 7 (sym first.before.field.ensures ∙ first.if-field-ne-HEADER.false), ← c.before.fits.ensures, c.if-not-fits.true)
 
-field-requires-3 : tie.Need-field-requires-3
+field-requires-3 : tie.Need-field-requires-2
 field-requires-3 c κs = (omega arith, room _ c.before.before.before.before.before.before.requires)
 
-returns-3 : tie.Need-returns-3
+returns-3 : tie.Need-returns
 unfolding broken2
 returns-3 c =
     let first = c.before.before.before.before in
-    rw (eq-eqb _ 7 (sym first.before.field.ensures ∙ first.if1.false), ← c.before.before.fits2.ensures, not-false c.before.before.fits2.result c.before.if2.false)
-    (leb_not c.field3.result c.before.before.before.field2.result ∙ (λ i. not (ltb (c.before.before.before.field2.ensures i) (c.field3.ensures i))))
+    rw (eq-eqb _ 7 (sym first.before.field.ensures ∙ first.if-field-ne-HEADER.false), ← c.before.before.fits.ensures, c.before.if-not-fits.false)
+    (leb_not c.field-2.result c.before.before.before.field-junctions.result ∙ (λ i. not (ltb (c.before.before.before.field-junctions.ensures i) (c.field-2.ensures i))))
 
 pub wrong_header_spec : {M : Type 1} → statement M
 wrong_header_spec =

@@ -7,7 +7,7 @@ use borrow.Author.Rules.{rules}
 use native.Mathlib.Omega.{arith}
 use lib.ListN.{length}
 use Rattle.plan.specs.Lists.{any, upto}
-use Rattle.plan.specs.Records.{field, records, junctions, fits}
+use Rattle.plan.specs.Records.{records, junctions, fits}
 use Rattle.plan.specs.Refusals.{broken3, right_kind}
 use Rattle.plan.specs.Inner.{Passed2}
 use Rattle.plan.proofs.Lists.{any_stop, any_next, any_done}
@@ -19,61 +19,61 @@ use Rattle.plan.proofs.form.wrong_record.Tie as tie
 abbrev wrong : List ℕ → ℕ → Bool
 wrong p r = not (right_kind p r && fits p r)
 
-abbrev invariant-loop : tie.invariant-loop
+abbrev invariant-loop : tie.invariant-loop-r
 invariant-loop p n j r₀ r = (n ≡ records p) × (j ≡ junctions p) × (1 ≤ r) × (any (wrong p) (upto r n) ≡ broken3 p)
 
-abbrev decreases-loop : tie.decreases-loop
+abbrev decreases-loop : tie.decreases-loop-r
 decreases-loop p n j r₀ r = n - r
 
 -- a record below N is there
 room : (p : List ℕ) → Passed2 p → (n r : ℕ) → n ≡ records p → r < n → 12 * r + 12 ≤ length p
 room p h n r e l = there p h.0 r (omega arith)
 
-records-requires : tie.Need-records-requires invariant-loop decreases-loop
+records-requires : tie.Need-records-n-requires invariant-loop decreases-loop
 records-requires c κs = let s = sized _ c.before.requires.0 in omega arith
 
-field-requires : tie.Need-field-requires invariant-loop decreases-loop
+field-requires : tie.Need-field-last-requires invariant-loop decreases-loop
 field-requires c κs = let s = sized _ c.before.before.requires.0 in (omega arith, omega arith)
 
-loop-holds : tie.Need-loop-init invariant-loop decreases-loop
+loop-holds : tie.Need-loop-r-init invariant-loop decreases-loop
 unfolding broken3
-loop-holds c = (c.before.records.ensures.0, c.field.ensures, omega arith, ap (λ n. any (wrong c.before.before.before.args.p.now) (upto 1 n)) c.before.records.ensures.0)
+loop-holds c = (c.before.records-n.ensures.0, c.field-last.ensures, omega arith, ap (λ n. any (wrong c.before.before.before.args.p.now) (upto 1 n)) c.before.records-n.ensures.0)
 
-right-record-requires : tie.Need-right-record-requires invariant-loop decreases-loop
+right-record-requires : tie.Need-right_record-requires invariant-loop decreases-loop
 right-record-requires c κs =
-    let i = c.before.loop.invariant in
-    (i.1, room _ c.before.before.before.before.before.requires _ _ i.0 c.loop-test.true)
+    let i = c.before.loop-r.invariant in
+    (i.1, room _ c.before.before.before.before.before.requires _ _ i.0 c.loop-r-test.true)
 
-returns : tie.Need-returns invariant-loop decreases-loop
+returns : tie.Need-returns-then-not-right_record invariant-loop decreases-loop
 returns c =
     let loop = c.before.before in
     let a = loop.before.before.before.before.before.args in
-    sym (any_stop (wrong a.p.now) loop.before.loop.r _ loop.loop-test.true (ap not (sym c.before.right-record.ensures) ∙ c.if1.true))
-    ∙ loop.before.loop.invariant.3
+    sym (any_stop (wrong a.p.now) loop.before.loop-r.r _ loop.loop-r-test.true (ap not (sym c.before.right_record.ensures) ∙ ap not c.if-not-right_record.true))
+    ∙ loop.before.loop-r.invariant.3
 
-add_r : tie.Need-overflow-add-r invariant-loop decreases-loop
+add_r : tie.Need-overflow_add-r invariant-loop decreases-loop
 add_r c =
     let loop = c.before.before in
-    omega (arith, loop.loop-test.true, loop.before.before.before.records.ensures.1)
+    omega (arith, loop.loop-r-test.true, loop.before.before.before.records-n.ensures.1)
 
-loop-less : tie.Need-loop-smaller invariant-loop decreases-loop
+loop-less : tie.Need-loop-r-smaller invariant-loop decreases-loop
 loop-less c = search rules
 
-loop-again : tie.Need-loop-preserved invariant-loop decreases-loop
+loop-again : tie.Need-loop-r-preserved invariant-loop decreases-loop
 loop-again c =
     let loop = c.before.before in
     let a = loop.before.before.before.before.before.args in
-    let inv = loop.before.loop.invariant in (
+    let inv = loop.before.loop-r.invariant in (
       inv.0,
       inv.1,
       omega arith,
-      any_next (wrong a.p.now) loop.before.loop.r _ loop.loop-test.true (ap not (sym c.before.right-record.ensures) ∙ c.if1.false) ∙ inv.3,
+      any_next (wrong a.p.now) loop.before.loop-r.r _ loop.loop-r-test.true (ap not (sym c.before.right_record.ensures) ∙ ap not c.if-not-right_record.false) ∙ inv.3,
     )
 
-returns-2 : tie.Need-returns-2 invariant-loop decreases-loop
+returns-2 : tie.Need-returns invariant-loop decreases-loop
 returns-2 c =
     let a = c.before.before.before.before.before.args in
-    sym (any_done (wrong a.p.now) c.before.loop.r _ c.loop-test.false) ∙ c.before.loop.invariant.3
+    sym (any_done (wrong a.p.now) c.before.loop-r.r _ c.loop-r-test.false) ∙ c.before.loop-r.invariant.3
 
 pub wrong_record_spec : {M : Type 1} → statement M
 wrong_record_spec =

@@ -5,19 +5,19 @@ use Rattle.plan.proofs.LineAccepted.{accepted_there}
 use Rattle.plan.proofs.read.cost.Statement.{statement}
 use Rattle.plan.proofs.read.cost.Tie as tie
 
-cast-e : tie.Need-overflow-cast-e
+cast-e : tie.Need-overflow_cast-e
 cast-e c = search rules
 
-index-requires : tie.Need-index-requires
+index-requires : tie.Need-index-high-requires
 index-requires c κs = let pre = c.before.before.requires in (omega arith, accepted_there pre.0 _ pre.1.0)
 
-index-requires-2 : tie.Need-index-requires-2
+index-requires-2 : tie.Need-index-low-requires
 index-requires-2 c κs = let pre = c.before.before.before.requires in (omega arith, accepted_there pre.0 _ pre.1.0)
 
-mul-result : tie.Need-overflow-mul-result
+mul-result : tie.Need-overflow_mul-result
 mul-result c = search rules
 
-add-result : tie.Need-overflow-add-result
+add-result : tie.Need-overflow_add-result
 add-result c = search rules
 
 returns : tie.Need-returns

@@ -9,7 +9,7 @@ use Rattle.plan.proofs.Reading.{not_indexed, indexed_is}
 use Rattle.plan.proofs.read.is_belt.Statement.{statement}
 use Rattle.plan.proofs.read.is_belt.Tie as tie
 
-cast-e : tie.Need-overflow-cast-e
+cast-e : tie.Need-overflow_cast-e
 cast-e c = search rules
 
 records-requires : tie.Need-records-requires
@@ -19,21 +19,21 @@ records-requires c κs =
     let there = accepted_there ok 0 (omega arith) in
     omega arith
 
-returns : tie.Need-returns
+returns : tie.Need-returns-then-records-e
 returns c =
     let start = c.before.before.before.before in
     let n = c.before.records.ensures.0 in
-    let few = c.if1.true in
+    let few = c.if-records-e.true in
     sym (not_indexed start.requires start.args.belt.0 (λ o. omega (arith, o.0)))
 
 at-requires : tie.Need-at-requires
 at-requires c κs = search rules
 
-returns-2 : tie.Need-returns-2
+returns-2 : tie.Need-returns
 returns-2 c =
     let start = c.before.before.before.before.before in
     let n = c.before.before.records.ensures.0 in
-    let many = c.before.if1.false in
+    let many = c.before.if-records-e.false in
     ap (λ (k : ℕ). eqb k 2) c.at.ensures ∙ sym (indexed_is start.requires start.args.belt.0 (omega arith))
 
 pub is_belt_spec : {M : Type 1} → statement M

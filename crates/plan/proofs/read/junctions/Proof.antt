@@ -9,7 +9,7 @@ use Rattle.plan.proofs.read.junctions.Tie as tie
 at-requires : tie.Need-at-requires
 at-requires c κs = let room = accepted_room c.before.requires in (c.before.requires, omega arith, omega arith)
 
-cast-result : tie.Need-overflow-cast-result
+cast-result : tie.Need-overflow_cast-result
 cast-result c = search rules
 
 returns : tie.Need-returns

@@ -13,73 +13,73 @@ use Rattle.plan.proofs.Reading.{first_belt_is, next_belt_is, belt_chain_next, be
 use Rattle.plan.proofs.read.leaves.Statement.{statement}
 use Rattle.plan.proofs.read.leaves.Tie as tie
 
-abbrev invariant-loop : tie.invariant-loop
+abbrev invariant-loop : tie.invariant-loop-other
 invariant-loop p belt j other₀ other = ((other.0 ≡ 0 → ⊥) → IsBelt p other.0) × (mem belt.0 (chain p other.0) ≡ mem belt.0 (chain p (first_belt p j)))
 
-abbrev decreases-loop : tie.decreases-loop
+abbrev decreases-loop : tie.decreases-loop-other
 decreases-loop p belt j other₀ other = length (chain p other.0)
 
-first-belt-requires : tie.Need-first-belt-requires invariant-loop decreases-loop
+first-belt-requires : tie.Need-first_belt-other-requires invariant-loop decreases-loop
 first-belt-requires c κs = search rules
 
-loop-holds : tie.Need-loop-init invariant-loop decreases-loop
+loop-holds : tie.Need-loop-other-init invariant-loop decreases-loop
 loop-holds c =
     let start = c.before.before in
     let p = start.args.p.now in
-    let e = c.first_belt.ensures in
+    let e = c.first_belt-other.ensures in
     let is = first_belt_is start.requires.0 start.args.j start.requires.2 start.requires.3 in
     (λ d. subst (IsBelt p) (sym e) (is (λ z. d (e ∙ z))), ap (λ (i : ℕ). mem start.args.belt.0 (chain p i)) e)
 
-returns : tie.Need-returns invariant-loop decreases-loop
+returns : tie.Need-returns-then-belt-other invariant-loop decreases-loop
 returns c =
     let at = c.before.before.before.before.before in
     let start = at.before.before.before in
     let p = start.args.p.now in
     let e = start.args.belt.0 in
-    let o = at.loop.other.0 in
-    let here = ap (λ (t : Bool). t || mem e (chain p (next_belt p o))) (eq-eqb e o c.if2.true) in
-    let step = ap (mem e) (belt_chain_next start.requires.0 o (at.loop.invariant.0 c.before.before.before.if1.true)) in
-    sym (sym (at.loop.invariant.1 ∙ leaves_on start.requires.0 e start.args.j start.requires.1 start.requires.2 start.requires.3) ∙ step ∙ here)
+    let o = at.loop-other.other.0 in
+    let here = ap (λ (t : Bool). t || mem e (chain p (next_belt p o))) (eq-eqb e o c.if-belt-other.true) in
+    let step = ap (mem e) (belt_chain_next start.requires.0 o (at.loop-other.invariant.0 c.before.before.before.loop-other-test.true)) in
+    sym (sym (at.loop-other.invariant.1 ∙ leaves_on start.requires.0 e start.args.j start.requires.1 start.requires.2 start.requires.3) ∙ step ∙ here)
 
-next-belt-requires : tie.Need-next-belt-requires invariant-loop decreases-loop
+next-belt-requires : tie.Need-next_belt-other-requires invariant-loop decreases-loop
 next-belt-requires c κs =
     let at = c.before.before.before.before.before in
-    (at.before.before.before.requires.0, at.loop.invariant.0 c.before.before.before.if1.true)
+    (at.before.before.before.requires.0, at.loop-other.invariant.0 c.before.before.before.loop-other-test.true)
 
-loop-less : tie.Need-loop-smaller invariant-loop decreases-loop
+loop-less : tie.Need-loop-other-smaller invariant-loop decreases-loop
 loop-less c =
     let turn = c.before.before.before.before in
     let at = turn.before.before in
     let start = at.before.before.before in
     let p = start.args.p.now in
-    let s = ap length (belt_chain_next start.requires.0 at.loop.other.0 (at.loop.invariant.0 turn.if1.true)) in
-    let n = ap (λ (i : ℕ). length (chain p i)) c.next_belt.ensures in
+    let s = ap length (belt_chain_next start.requires.0 at.loop-other.other.0 (at.loop-other.invariant.0 turn.loop-other-test.true)) in
+    let n = ap (λ (i : ℕ). length (chain p i)) c.next_belt-other.ensures in
     omega arith
 
-loop-again : tie.Need-loop-preserved invariant-loop decreases-loop
+loop-again : tie.Need-loop-other-preserved invariant-loop decreases-loop
 loop-again c =
     let turn = c.before.before.before.before in
     let at = turn.before.before in
     let start = at.before.before.before in
     let p = start.args.p.now in
     let e = start.args.belt.0 in
-    let o = at.loop.other.0 in
-    let is = at.loop.invariant.0 turn.if1.true in
-    let n = c.next_belt.ensures in
-    let here = ap (λ (t : Bool). t || mem e (chain p (next_belt p o))) (ne_eqb e o c.before.if2.false) in
+    let o = at.loop-other.other.0 in
+    let is = at.loop-other.invariant.0 turn.loop-other-test.true in
+    let n = c.next_belt-other.ensures in
+    let here = ap (λ (t : Bool). t || mem e (chain p (next_belt p o))) (ne_eqb e o c.before.if-belt-other.false) in
     let step = ap (mem e) (belt_chain_next start.requires.0 o is) in (
       λ d. subst (IsBelt p) (sym n) (next_belt_is start.requires.0 o is (λ z. d (n ∙ z))).1,
-      ap (λ (i : ℕ). mem e (chain p i)) n ∙ sym (step ∙ here) ∙ at.loop.invariant.1,
+      ap (λ (i : ℕ). mem e (chain p i)) n ∙ sym (step ∙ here) ∙ at.loop-other.invariant.1,
     )
 
-returns-2 : tie.Need-returns-2 invariant-loop decreases-loop
+returns-2 : tie.Need-returns invariant-loop decreases-loop
 returns-2 c =
     let at = c.before.before in
     let start = at.before.before.before in
     let p = start.args.p.now in
     let e = start.args.belt.0 in
-    let done = ap (λ (i : ℕ). mem e (chain p i)) c.if1.false ∙ ap (mem e) (belt_chain_end start.requires.0) in
-    sym (sym (at.loop.invariant.1 ∙ leaves_on start.requires.0 e start.args.j start.requires.1 start.requires.2 start.requires.3) ∙ done)
+    let done = ap (λ (i : ℕ). mem e (chain p i)) c.loop-other-test.false ∙ ap (mem e) (belt_chain_end start.requires.0) in
+    sym (sym (at.loop-other.invariant.1 ∙ leaves_on start.requires.0 e start.args.j start.requires.1 start.requires.2 start.requires.3) ∙ done)
 
 pub leaves_spec : {M : Type 1} → statement M
 leaves_spec =

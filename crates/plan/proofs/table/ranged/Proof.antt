@@ -7,20 +7,20 @@ use Rattle.plan.proofs.Lists.{and_next, and_stop}
 use Rattle.plan.proofs.table.ranged.Statement.{statement}
 use Rattle.plan.proofs.table.ranged.Tie as tie
 
-field-requires : tie.Need-field-requires
+field-requires : tie.Need-field-value-requires
 field-requires c κs = search rules
 
-returns : tie.Need-returns
+returns : tie.Need-returns-then-a-value
 returns c =
     let a = c.before.before.before.args in
-    let e = c.before.field.ensures in
-    and_next (leb a.a c.before.field.result) (leb c.before.field.result a.z) (ap (leb a.a) e) (ap (λ v. leb v a.z) e) (le-leb _ _ c.if1.true)
+    let e = c.before.field-value.ensures in
+    and_next (leb a.a c.before.field-value.result) (leb c.before.field-value.result a.z) (ap (leb a.a) e) (ap (λ v. leb v a.z) e) (le-leb _ _ c.if-a-value.true)
 
-returns-2 : tie.Need-returns-2
+returns-2 : tie.Need-returns-else-a-value
 returns-2 c =
     let a = c.before.before.before.args in
-    let low = lt-leb a.a c.before.field.result c.if1.false in
-    and_stop (leb a.a c.before.field.result) _ (ap (leb a.a) c.before.field.ensures) low
+    let low = lt-leb a.a c.before.field-value.result c.if-a-value.false in
+    and_stop (leb a.a c.before.field-value.result) _ (ap (leb a.a) c.before.field-value.ensures) low
 
 pub ranged_spec : {M : Type 1} → statement M
 ranged_spec = tie.close (tie.spec field-requires returns returns-2)

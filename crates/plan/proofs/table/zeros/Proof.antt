@@ -17,21 +17,21 @@ one_number (suc a) b = ne_eqb (suc a * field_limit + b) 0 (λ e. omega arith) �
 index-requires : tie.Need-index-requires
 index-requires c κs = search rules
 
-mul-result : tie.Need-overflow-mul-result
+mul-result : tie.Need-overflow_mul-result
 mul-result c = search rules
 
-add-index : tie.Need-overflow-add-index
+add-index : tie.Need-overflow_add-f
 add-index c = search rules
 
 index-requires-2 : tie.Need-index-requires-2
 index-requires-2 c κs = search rules
 
-add-result : tie.Need-overflow-add-result
+add-result : tie.Need-overflow_add-result
 add-result c = search rules
 
 returns : tie.Need-returns
 returns c =
-    one_number c.before.index.result c.index2.result ∙ (λ i. eqb (c.before.index.ensures.0 i) 0 && eqb (c.index2.ensures.0 i) 0)
+    one_number c.before.index.result c.index-2.result ∙ (λ i. eqb (c.before.index.ensures.0 i) 0 && eqb (c.index-2.ensures.0 i) 0)
 
 pub zeros_spec : {M : Type 1} → statement M
 zeros_spec = tie.close (tie.spec index-requires mul-result add-index index-requires-2 add-result returns)
