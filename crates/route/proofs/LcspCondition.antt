@@ -19,7 +19,7 @@ use mathlib.Core.List.{List, [], ◌∷◌, map, Memᴰ}
 use borrow.Author.Tests.{eqb-true, eq-eqb}
 use Rattle.plan.specs.Lists.{any}
 use Rattle.plan.proofs.Lists.{test, both, never, untrue, alike, beq_true, beq_refl, eqb_sym, in_any, any_some, in_map}
-use Rattle.route.specs.Lcsp.{Var, graph, free, Lit, ¬ₗ, same_var, same_lit, Clause, Formula, ◌∈?◌, Consistent, unless, without, lacking, ◌given◌, ◌givenAll◌, Satisfies}
+use Rattle.route.specs.Lcsp.{Var, graph, free, Lit, ¬ₗ, same_var, same_lit, Clause, Formula, ◌∈?◌, Consistent, unless, without, lacking, ◌given◌, ◌given_all◌, Satisfies}
 use Rattle.route.specs.Claims.{OrderFreeClaim}
 
 -- ---- the equality tests
@@ -198,7 +198,7 @@ module _ (l : Lit) (T : List Lit) where
       go true e = e
       go false e = ap (unless (any (among T) (without (¬ₗ l) α)) (cut (among T) (without (¬ₗ l) α))) e
 
-left_is : (T : List Lit) (Φ : Formula) → Consistent T → Φ givenAll T ≡ left (among T) Φ
+left_is : (T : List Lit) (Φ : Formula) → Consistent T → Φ given_all T ≡ left (among T) Φ
 left_is [] Φ c = sym (left_none Φ)
 left_is (l ∷ T) Φ c = left_is T (Φ given l) (λ m x y. c m (Memᴰ.tail x) (Memᴰ.tail y)) ∙ left_more l T out Φ
   where

@@ -17,7 +17,7 @@ use mathlib.Core.Logic.{◌⊎◌, inl, inr}
 use mathlib.Core.Bool.{true}
 use Prim.Native.Nat.{ℕ, suc, ◌+◌, ◌≤◌, ◌<◌}
 use mathlib.Core.List.Memᴰ
-use mathlib.Core.List.{List, [], ◌∷◌, map, Memᴰ, map_map, map-id}
+use mathlib.Core.List.{List, [], ◌∷◌, map, Memᴰ, map-map, map-id}
 use native.Mathlib.Omega.{arith}
 use Rattle.plan.specs.declared.read.Literal.{Literal}
 use Rattle.plan.specs.declared.read.Literal.TheVariants.{OfBelt, OfMode}
@@ -27,7 +27,7 @@ use Rattle.plan.proofs.Lists.{in_keep, keep_in, in_map, map_in, in_upto}
 use Rattle.plan.proofs.Reading.{belt_in, belt_index, belt_ends, literal_belt, literal_mode}
 use Rattle.route.specs.Lcsp.{free, Lit, Clause, Arc, arc_var, variables, IsPath, IsInstance}
 use Rattle.route.specs.declared.path.Trip.{Trip}
-use Rattle.route.specs.Routes.{IsRoute, cost}
+use Rattle.route.specs.Routes.{IsRoute}
 use Rattle.route.specs.Permission.{is_on, modes_of}
 use Rattle.route.specs.Instances.{arc_of, lit_of, lock_lit, unit_of, locked_of, instance_of}
 use Rattle.route.specs.Claims.{CostClaim}
@@ -39,7 +39,7 @@ abbrev belt_of : Arc → Belt
 belt_of a = record { index = a.number; leaves = a.tail; leads = a.head; cost = a.weight }
 
 pub arcs_belts : (q : List Arc) → (r : List Belt) × (q ≡ map arc_of r)
-arcs_belts q = (map belt_of q, sym (map_map arc_of belt_of q ∙ map-id q))
+arcs_belts q = (map belt_of q, sym (map-map arc_of belt_of q ∙ map-id q))
 
 pub cost_weight : CostClaim
 cost_weight [] = refl

@@ -5,20 +5,16 @@
 --   walked_size    storing its belts in an array leaves the array's length as it was
 --
 -- Assumes nothing.
-use mathlib.Core.Path.{◌≡◌, refl, sym, ◌∙◌, ap, subst}
-use mathlib.Core.Logic.{◌⊎◌, inl, inr}
+use mathlib.Core.Path.{◌≡◌, refl, ap}
 use mathlib.Core.Bool.{Bool, true, false}
 use mathlib.Core.Option.{Option, none, some}
 use Prim.Native.Nat.{ℕ, ◌≤◌, ◌<◌}
 use mathlib.Core.List.{List}
-use native.Mathlib.Omega.{arith}
 use lib.ListN.{length}
 use lib.Seq.{length-sets}
-use lib.Dec.{leb}
-use borrow.Author.Tests.{leb-true, leb-false, le-leb, lt-leb}
+use borrow.Author.Tests.{le-leb, lt-leb}
 use Rattle.plan.specs.Plan.{Belt, indices_of}
-use Rattle.plan.proofs.Lists.{test}
-use Rattle.route.specs.Routes.{cost, cost_limit}
+use Rattle.route.specs.Routes.{cost}
 use Rattle.route.specs.Values.{at_most, walked_of}
 use Rattle.route.specs.Inner.{way_cost}
 

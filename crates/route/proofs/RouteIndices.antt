@@ -28,7 +28,7 @@ use mathlib.Core.Logic.{◌⊎◌, inl, inr}
 use mathlib.Core.Bool.{Bool, true, false, ◌&&◌, ◌||◌}
 use Prim.Native.Nat.{ℕ, ◌+◌, ◌*◌, ◌-◌, ◌≤◌, ◌<◌}
 use mathlib.Core.List.Memᴰ
-use mathlib.Core.List.{List, [], ◌∷◌, ◌++◌, map, Memᴰ, map_map, map-id}
+use mathlib.Core.List.{List, [], ◌∷◌, ◌++◌, map, Memᴰ, map-map, map-id}
 use native.Mathlib.Omega.{arith}
 use lib.ListN.{length, take, replicate, length-map, length-take}
 use lib.Seq.{take_at, sets}
@@ -140,7 +140,7 @@ ends_junctions p s t h =
 pub ids_packed : (es : List ℕ) → length es ≤ max_steps → ids_of (packed es) ≡ es
 ids_packed es h =
     ap (map (λ (e : BeltId). e.0)) (take_at (map belt_id es) (replicate (max_steps - length es) (belt_id 0)) (length es) (length-map es belt_id))
-    ∙ map_map (λ (e : BeltId). e.0) belt_id es
+    ∙ map-map (λ (e : BeltId). e.0) belt_id es
     ∙ map-id es
 
 pub packed_sets : (es : List ℕ) → length es ≤ max_steps → sets (replicate max_steps (belt_id 0)) 0 (map belt_id es) ≡ (packed es).belts
@@ -150,7 +150,7 @@ pub known_route : {b : List ℕ} → Accepted b → (r : Route) → Known b r �
 known_route ok r k = indexed_map ok (ids_of r) k.belts
 
 pub known_indices : {b : List ℕ} → Accepted b → (r : Route) → Known b r → indices_of (route_in b r) ≡ ids_of r
-known_indices {b} ok r k = ap indices_of (known_route ok r k) ∙ map_map (λ (e : Belt). e.index) (belt_at b) (ids_of r) ∙ map-id (ids_of r)
+known_indices {b} ok r k = ap indices_of (known_route ok r k) ∙ map-map (λ (e : Belt). e.index) (belt_at b) (ids_of r) ∙ map-id (ids_of r)
 
 pub known_cheap : {b : List ℕ} → Accepted b → Bytes b → (r : Route) → Known b r → cost (route_in b r) < unbounded
 known_cheap {b} ok bytes r k =

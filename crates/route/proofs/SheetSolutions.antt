@@ -13,7 +13,7 @@
 use mathlib.Core.Path.{◌≡◌, refl, sym, ◌∙◌, ap, subst}
 use mathlib.Core.Bool.{Bool, true, false, not, ◌&&◌}
 use Prim.Native.Nat.{ℕ, ◌^◌, ◌≤◌, ◌<◌}
-use mathlib.Core.List.{List, map, Memᴰ, map_map}
+use mathlib.Core.List.{List, map, Memᴰ, map-map}
 use native.Mathlib.Omega.{arith}
 use lib.ListN.{length, length-map}
 use lib.Dec.{eqb, ltb}
@@ -31,9 +31,9 @@ use Rattle.route.specs.Routes.{IsRoute, connects, cost, belts_by_index}
 use Rattle.route.specs.Permission.{passes, terms_of, works}
 use Rattle.route.specs.Instances.{arc_of, instance_of, joint}
 use Rattle.route.specs.Sheets.{sheet_of, Reads, in_form, belts_on, cost_on, setting_on}
-use Rattle.route.specs.Refusals.{PlanTrip, Case, plan_trip, broken11, broken12, broken13, broken14, route_on, trip_lines, sheet_refusal}
+use Rattle.route.specs.Refusals.{Case, plan_trip, broken11, broken12, broken13, broken14, route_on, trip_lines, sheet_refusal}
 use Rattle.route.specs.Claims.{ReadsSolved, CheckClaim, WrittenClaim, WriterClaim}
-use Rattle.route.specs.Values.{ids_of, route_in, bytes_of, case_of}
+use Rattle.route.specs.Values.{ids_of, route_in, case_of}
 use Rattle.route.proofs.LcspInstance.{arcs_belts, cost_weight}
 use Rattle.route.proofs.LcspFeasible.{joint_feasible, feasible_joint}
 use Rattle.route.proofs.RouteIndices.{indexed_map, indices_belts, indexed_in, known_belts, connects_route, route_connects, route_belts, route_few, route_cheap, known_indices}
@@ -72,7 +72,7 @@ module _ (k : Case) where
 -- ---- the numbers of arcs are the indices of belts
 
 pub numbers_indices : (r : List Belt) → map (λ (a : Arc). a.number) (map arc_of r) ≡ indices_of r
-numbers_indices r = map_map (λ (a : Arc). a.number) arc_of r
+numbers_indices r = map-map (λ (a : Arc). a.number) arc_of r
 
 -- ---- an accepted sheet reads as a feasible solution
 

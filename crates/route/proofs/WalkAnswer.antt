@@ -87,7 +87,7 @@ module _ {b words numbers places : List ℕ} (g : Graph b words numbers places) 
   by_places : relaxed (plan_of b) (suc (s - 1)) (suc (t - 1)) (subproblem_in b f) ≡ relaxed (plan_of b) s t (subproblem_in b f)
   by_places = λ i. relaxed (plan_of b) (from_place i) (to_place i) (subproblem_in b f)
 
-  module _ (bound limit : ℕ) {due way : ℕ} {ways : List ℕ} (low : bound < way_limit) (limits : limit / link_limit ≡ bound)
+  module _ (bound limit : ℕ) {due way : ℕ} (ways : List ℕ) (low : bound < way_limit) (limits : limit / link_limit ≡ bound)
       (apart : bit_and f.required f.forbidden ≡ 0) (has : (k : ℕ) → bit due k ≡ (ltb k (named_at numbers) && bit f.required (tail_place_at numbers k)))
       (gives : Gives words numbers due f.forbidden limit (s - 1) (t - 1) way ways) where
     asked : Asked b (subproblem_in b f) words numbers due f.forbidden (t - 1)

@@ -40,7 +40,7 @@ use mathlib.Core.List.{List, [], ◌++◌, map, Memᴰ}
 use Rattle.plan.specs.Plan.{Belt, Plan, plan_of, indices_of}
 use Rattle.plan.specs.Claims.{Unbroken, FirstIn}
 use Rattle.plan.specs.Reading.{Accepted, Bytes}
-use Rattle.route.specs.Lcsp.{Var, Lit, Formula, IsAssignment, ◌givenAll◌, Satisfies, Arc, IsInstance, weight_of, FeasibleBy, Feasible}
+use Rattle.route.specs.Lcsp.{Var, Lit, Formula, IsAssignment, ◌given_all◌, Satisfies, Arc, IsInstance, weight_of, FeasibleBy, Feasible}
 use Rattle.route.specs.declared.path.Trip.{Trip}
 use Rattle.route.specs.declared.sheet.Sheet.{Sheet}
 use Rattle.route.specs.Routes.{IsRoute, cost, before, routes, Distinct}
@@ -55,7 +55,7 @@ use Rattle.route.specs.Values.{Known, route_in, bytes_of, mask_of, has_belt, cas
 
 abbrev pub OrderFreeClaim : Type 0
 OrderFreeClaim = (X : List Var) (T U : List Lit) (Φ : Formula) → IsAssignment X T
-    → ((l : Lit) → Memᴰ l T ↔ Memᴰ l U) → Φ givenAll T ≡ Φ givenAll U
+    → ((l : Lit) → Memᴰ l T ↔ Memᴰ l U) → Φ given_all T ≡ Φ given_all U
 
 abbrev pub InstanceClaim : Type 0
 InstanceClaim = (k : PlanTrip) → Unbroken trip_lines k → IsInstance (instance_of (plan_of k.plan) k.trip)

@@ -10,7 +10,7 @@ use Rattle.plan.specs.Records.{record_of, row_of, fits, links_at, links}
 use Rattle.plan.specs.Plan.{Plan, plan_of, named, indices_of}
 use Rattle.plan.specs.Refusals.{broken1, broken2, broken3, broken4, broken5, broken6, broken7}
 use Rattle.plan.specs.Examples.{plan_p}
-use Rattle.route.specs.Lcsp.{Formula, ◌givenAll◌}
+use Rattle.route.specs.Lcsp.{Formula, ◌given_all◌}
 use Rattle.route.specs.Routes.{before, routes, belts_by_index}
 use Rattle.route.specs.declared.path.Trip.{Trip}
 use Rattle.route.specs.Permission.{passes, no_lock, terms_of, lowest}
@@ -66,7 +66,7 @@ P_4_6 = refl
 
 -- what conditioning by the joint assignment of these belts and this setting leaves of the formula
 abbrev leaves : List ℕ → Trip → List ℕ → ℕ → Formula
-leaves b trip es σ = (instance_of (plan_of b) trip).formula givenAll joint (plan_of b) (map arc_of (belts_by_index (plan_of b) es)) σ
+leaves b trip es σ = (instance_of (plan_of b) trip).formula given_all joint (plan_of b) (map arc_of (belts_by_index (plan_of b) es)) σ
 
 -- conditioning by the joint assignment of belt 5 and setting 0 leaves nothing; that of belts 4 and 6 leaves the empty clause
 p_5_leaves : leaves plan_p from_1_to_3 (5 ∷ []) 0 ≡ []

@@ -7,8 +7,8 @@
 --   l ∈? α             l is in the set α, as a Boolean: it rests on same_lit, and that on same_var
 --   IsAssignment X T   T is a set of literals over X without a contradiction (Consistent)
 --   IsComplete X T     T assigns every variable of X, true or false
---   Φ given l          (2), written Φ | l there: conditioning on a literal; Φ givenAll T: on an assignment, one literal after the other
---   Satisfies T Φ      nothing is left of Φ givenAll T
+--   Φ given l          (2), written Φ | l there: conditioning on a literal; Φ given_all T: on an assignment, one literal after the other
+--   Satisfies T Φ      nothing is left of Φ given_all T
 --   Arc                an arc: its number, where it leaves (tail) and leads (head), its weight, a natural number
 --   Instance           nodes and arcs of the graph, the free variables, the formula, s and t. The bijection ρ from arcs to graph
 --                      variables is `graph` on the arcs' numbers (arc_var)
@@ -25,12 +25,12 @@
 -- Left out, since Definition 2.1 does not use them: unassigned variables, that an assignment satisfies a single clause, and formulas that are
 -- unsatisfiable or contradicted. Two arcs with the same ends are two arcs, told apart by their numbers. Weights are natural numbers, where the
 -- document has non-negative ones.
--- That Φ givenAll T does not depend on the order of T is a law (proofs/LcspCondition.antt). Assumes nothing.
+-- That Φ given_all T does not depend on the order of T is a law (proofs/LcspCondition.antt). Assumes nothing.
 use Rattle.std.specs.Prelude.{◌≡◌, ℕ, ◌+◌, ◌≤◌, Bool, true, false, not, ◌&&◌, ◌||◌, ◌↔◌, ◌⊎◌, eqb}
 use Rattle.std.specs.Bool.{beq}
 use mathlib.Core.List.{List, [], ◌∷◌, ◌++◌, map, Memᴰ}
 
-infixl 60 ◌given◌ ◌givenAll◌
+infixl 60 ◌given◌ ◌given_all◌
 infixl 50 ◌∈?◌
 -- ---- 2.1: propositional logic
 
@@ -100,12 +100,12 @@ lacking l (α ∷ Φ) = unless (l ∈? α) α (lacking l Φ)
 abbrev pub ◌given◌ : Formula → Lit → Formula
 Φ given l = map (without (¬ₗ l)) (lacking l Φ)
 
-abbrev pub ◌givenAll◌ : Formula → List Lit → Formula
-Φ givenAll [] = Φ
-Φ givenAll (l ∷ T) = (Φ given l) givenAll T
+abbrev pub ◌given_all◌ : Formula → List Lit → Formula
+Φ given_all [] = Φ
+Φ given_all (l ∷ T) = (Φ given l) given_all T
 
 abbrev pub Satisfies : List Lit → Formula → Type 0
-Satisfies T Φ = Φ givenAll T ≡ []
+Satisfies T Φ = Φ given_all T ≡ []
 
 -- ---- 2.2: the problem
 

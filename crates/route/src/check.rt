@@ -18,7 +18,7 @@ use plan::refusal::Refusal;
 use plan::{read, refusal};
 
 // What the check of a sheet answers: accepted, or refused by the first broken one of lines 1 to 8, 15 and 11 to 14.
-#[derive(Drop)]
+#[derive(Clone, Copy)]
 pub enum SheetVerdict {
     Accepted,
     Refused(Refusal),

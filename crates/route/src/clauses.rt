@@ -18,7 +18,7 @@ use plan::read::{Literal, ModeId, RuleId};
 pub const FIELD: u32 = FIELD_LIMIT as u32;
 
 // A literal as its code has it: the place of its belt among the named belts, or its mode, and whether it is wanted.
-#[derive(Drop)]
+#[derive(Clone, Copy)]
 pub enum Coded {
     Belt(Place, bool),
     Mode(ModeId, bool),

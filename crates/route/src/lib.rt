@@ -9,6 +9,8 @@
 //   relax   the relaxed route of a subproblem
 //   sheet   route sheets, written and read
 //   check   the check of a sheet: lines 1 to 8, 15 and 11 to 14 of the refusal table
+#![tactic(auto)]
+
 pub mod check;
 pub mod clauses;
 pub mod masks;

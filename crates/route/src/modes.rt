@@ -11,7 +11,7 @@ use crate::rules;
 use plan::read::ModeId;
 
 // The lowest setting that works, or that none does.
-#[derive(Drop)]
+#[derive(Clone, Copy)]
 pub enum Lowest {
     Works(u16),
     Nothing,

@@ -17,7 +17,7 @@ use plan::read::BeltId;
 pub const COST_LIMIT: u64 = (FIELD_LIMIT * FIELD_LIMIT * FIELD_LIMIT) as u64;
 
 // The modes that the depot sets. Bit m-1 is for mode m: in `mask` it says that the mode is locked, in `values` that it is locked on.
-#[derive(Drop)]
+#[derive(Clone, Copy)]
 pub struct Lock {
     pub mask: u64,
     pub values: u64,
@@ -31,7 +31,7 @@ pub fn no_lock() -> Lock
 }
 
 // What a route is asked or checked for: it leads from junction s to junction t, and is permitted under the lock.
-#[derive(Drop)]
+#[derive(Clone, Copy)]
 pub struct Trip {
     pub s: u64,
     pub t: u64,
@@ -39,7 +39,7 @@ pub struct Trip {
 }
 
 // A route: its belts in order are the first `count` of the array.
-#[derive(Drop)]
+#[derive(Clone, Copy)]
 pub struct Route {
     pub count: usize,
     pub belts: [BeltId; MAX_STEPS],

@@ -23,14 +23,14 @@ use plan::words::{FAR, LINK_LIMIT, NUMBERS, WAY_LIMIT};
 use plan::{named, words};
 
 // A subproblem: masks over the named belts of the plan, bit k for the belt at place k among them.
-#[derive(Drop)]
+#[derive(Clone, Copy)]
 pub struct Fixings {
     pub required: u64,
     pub forbidden: u64,
 }
 
 // A relaxed route: its cost, how many belts it has, and the mask of its named belts. Where there is none the cost is NO_ROUTE, and the rest 0.
-#[derive(Drop)]
+#[derive(Clone, Copy)]
 pub struct Summary {
     pub cost: u64,
     pub count: usize,

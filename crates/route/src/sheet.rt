@@ -22,7 +22,7 @@ const MIDDLE: u64 = FIELD_LIMIT as u64;
 const HIGH: u64 = MIDDLE * MIDDLE;
 
 // What a sheet says.
-#[derive(Drop)]
+#[derive(Clone, Copy)]
 pub struct Sheet {
     pub route: Route,
     pub cost: u64,

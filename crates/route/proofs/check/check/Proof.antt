@@ -4,7 +4,6 @@ use mathlib.Core.Bool.{true, false}
 use native.Mathlib.Omega.{arith}
 use lib.ListN.{length}
 use borrow.Author.Rules.{rules}
-use borrow.Author.Tests.{not-true, not-false}
 use Rattle.plan.specs.Refusals.{refusal, number_of}
 use Rattle.plan.specs.Claims.{Unbroken}
 use Rattle.plan.specs.Reading.{Accepted}
@@ -23,95 +22,95 @@ use Rattle.route.proofs.check.check.Tie as tie
 abbrev case : tie.Start → Case
 case c = case_of c.args.p.now c.args.trip c.args.h.now
 
-check-requires : tie.Need-check-requires
+check-requires : tie.Need-check-verdict-requires
 check-requires c κs = search rules
 
-enum-known-verdict : tie.Need-enum-known-verdict
+enum-known-verdict : tie.Need-enum_known-verdict
 enum-known-verdict c = search rules
 
 -- the plan is refused: its refusal is passed on
-returns : tie.Need-returns
+returns : tie.Need-returns-in-Refused
 returns c =
-    let start = c.before.before.before.before.before.before in
-    let r = c.before.verdict.given.0.0 in
-    let answer = sym (ap number_of c.before.verdict.given.1) ∙ c.before.before.before.check.ensures in
+    let start = c.before.before.before.before in
+    let r = c.in-Refused.r in
+    let answer = sym (ap number_of c.in-Refused.is) ∙ c.before.check-verdict.ensures in
     let broken : refusal start.args.p.now ≡ 0 → ⊥ = λ z. nonzero r (answer ∙ z) in
     answer ∙ sym (trip_refused (case start) _ broken (trip_plan (plan_trip (case start)) broken))
 
-enum_told : tie.Need-enum-told
+enum_told : tie.Need-enum_told-1
 enum_told c = search rules
 
 -- past the check of the plan: it is accepted
-accepted : (c : tie.After-enum-told) → Accepted (case c.before.before.before.before.before).plan
-accepted c = record { unrefused = sym c.before.before.check.ensures ∙ ap number_of c.enum_told.given.1 }
+accepted : (c : tie.In_default) → Accepted (case c.before.before.before.before).plan
+accepted c = record { unrefused = sym c.before.check-verdict.ensures ∙ ap number_of c.in_default.is }
 
 -- where all was asked for
-abbrev begun : tie.After-enum-told → tie.Start
-begun c = c.before.before.before.before.before
+abbrev begun : tie.In_default → tie.Start
+begun c = c.before.before.before.before
 
 -- the plan and the trip of the case
-abbrev trip : tie.After-enum-told → PlanTrip
+abbrev trip : tie.In_default → PlanTrip
 trip c = plan_trip (case (begun c))
 
-wrong-ends-requires : tie.Need-wrong-ends-requires
+wrong-ends-requires : tie.Need-wrong_ends-requires
 wrong-ends-requires c κs = accepted c
 
-returns-2 : tie.Need-returns-2
+returns-2 : tie.Need-returns-then-wrong_ends
 returns-2 c =
     let past = c.before.before in
     sym (trip_refused (case (begun past)) 8 (λ z. omega arith)
-    (trip_8 (trip past) (accepted past) (ends_wrong (trip past) (sym c.before.wrong-ends.ensures ∙ c.if1.true))))
+    (trip_8 (trip past) (accepted past) (ends_wrong (trip past) (sym c.before.wrong_ends.ensures ∙ c.if-wrong_ends.true))))
 
 -- past the test of s and t
-ends : (c : tie.Else1) → broken8 (trip c.before.before) ≡ false
-ends c = ends_fine (trip c.before.before) (sym c.before.wrong-ends.ensures ∙ c.if1.false)
+ends : (c : tie.Else-wrong_ends) → broken8 (trip c.before.before) ≡ false
+ends c = ends_fine (trip c.before.before) (sym c.before.wrong_ends.ensures ∙ c.if-wrong_ends.false)
 
-wrong-lock-requires : tie.Need-wrong-lock-requires
-wrong-lock-requires c κs = accepted c.before.before
+wrong-lock-requires : tie.Need-wrong_lock-requires
+wrong-lock-requires c κs = accepted c.before.before.before
 
-returns-3 : tie.Need-returns-3
+returns-3 : tie.Need-returns-then-wrong_lock
 returns-3 c =
     let at = c.before.before in
     let past = at.before.before in
-    sym (trip_refused (case (begun past)) 15 (λ z. omega arith)
-    (trip_15 (trip past) (accepted past) (ends at) (lock_wrong (trip past) (sym c.before.wrong-lock.ensures ∙ c.if2.true))))
+    sym (trip_refused (case (begun past.before)) 15 (λ z. omega arith)
+    (trip_15 (trip past.before) (accepted past.before) (ends at.before) (lock_wrong (trip past.before) (sym c.before.wrong_lock.ensures ∙ c.if-wrong_lock.true))))
 
 -- past the test of the lock
-abbrev asked : tie.Else2 → tie.After-enum-told
-asked c = c.before.before.before.before
+abbrev asked : tie.Else-wrong_lock → tie.In_default
+asked c = c.before.before.before.before.before
 
-fine : (c : tie.Else2) → Unbroken trip_lines (trip (asked c))
+fine : (c : tie.Else-wrong_lock) → Unbroken trip_lines (trip (asked c))
 fine c =
-    let lock = lock_right (trip (asked c)) (sym c.before.wrong-lock.ensures ∙ c.if2.false) in
-    fine_trip (trip (asked c)) (accepted (asked c)) (ends c.before.before) lock
+    let lock = lock_right (trip (asked c)) (sym c.before.wrong_lock.ensures ∙ c.if-wrong_lock.false) in
+    fine_trip (trip (asked c)) (accepted (asked c)) (ends c.before.before.before) lock
 
-in-form-requires : tie.Need-in-form-requires
+in-form-requires : tie.Need-in_form-requires
 in-form-requires c κs = search rules
 
-returns-4 : tie.Need-returns-4
+returns-4 : tie.Need-returns-then-not-in_form
 returns-4 c =
     let at = c.before.before in
-    let this = sym c.before.in-form.ensures ∙ not-true c.before.in-form.result c.if3.true in
+    let this = sym c.before.in_form.ensures ∙ c.if-not-in_form.true in
     sym (no_form (case (begun (asked at))) (fine at) this)
 
 -- past the test of the form
-form : (c : tie.Else3) → in_form (case (begun (asked c.before.before))).sheet ≡ true
-form c = sym c.before.in-form.ensures ∙ not-false c.before.in-form.result c.if3.false
+form : (c : tie.Else-not-in_form) → in_form (case (begun (asked c.before.before))).sheet ≡ true
+form c = sym c.before.in_form.ensures ∙ c.if-not-in_form.false
 
 read-requires : tie.Need-read-requires
 read-requires c κs = form c
 
-check-content-requires : tie.Need-check-content-requires
+check-content-requires : tie.Need-check_content-requires
 check-content-requires c κs =
     let at = c.before.before.before in
     let past = asked at in
     let h = (begun past).args.h.now in
-    let ends-are = sym at.before.before.before.wrong-ends.ensures ∙ at.before.before.if1.false in
-    let lock-is = sym at.before.wrong-lock.ensures ∙ at.if2.false in
+    let ends-are = sym at.before.before.before.wrong_ends.ensures ∙ at.before.before.if-wrong_ends.false in
+    let lock-is = sym at.before.wrong_lock.ensures ∙ at.if-wrong_lock.false in
     let count : c.read.result.route.count ≡ length (belts_on h) = ap (λ (v : Sheet). v.route.count) c.read.ensures in
     (accepted past, ends-are, lock-is, omega (arith, few_belts h (form_is h (form c.before))))
 
-returns-5 : tie.Need-returns-5
+returns-5 : tie.Need-returns
 returns-5 c =
     let at = c.before.before.before.before in
     let start = begun (asked at) in
@@ -119,7 +118,7 @@ returns-5 c =
     let formed = form c.before.before in
     let read = c.before.read.ensures in
     let ids = ap (λ (v : Sheet). ids_of v.route) read ∙ ids_packed (belts_on h) (few_belts h (form_is h formed)) in
-    c.check-content.ensures
+    c.check_content.ensures
     ∙ sym (content_refused (case start) (fine at) c.before.read.result formed ids (ap (λ (v : Sheet). v.cost) read) (ap (λ (v : Sheet). v.setting) read))
 
 pub check_spec : {M : Type 1} → statement M

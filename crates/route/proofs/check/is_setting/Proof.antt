@@ -12,7 +12,7 @@ use Rattle.route.proofs.check.is_setting.Tie as tie
 modes-requires : tie.Need-modes-requires
 modes-requires c κs = search rules
 
-shl-result : tie.Need-overflow-shl-result
+shl-result : tie.Need-overflow_shl-result
 shl-result c = omega (arith, (plan_sizes c.before.before.requires).2, c.modes.ensures)
 
 returns : tie.Need-returns

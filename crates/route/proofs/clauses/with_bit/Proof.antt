@@ -5,20 +5,20 @@ use Rattle.route.specs.Values.{with_bit}
 use Rattle.route.proofs.clauses.with_bit.Statement.{statement}
 use Rattle.route.proofs.clauses.with_bit.Tie as tie
 
-mul-result : tie.Need-overflow-mul-result
+mul-result : tie.Need-overflow_mul-result
 mul-result c = search rules
 
-add-result : tie.Need-overflow-add-result
+add-result : tie.Need-overflow_add-result
 add-result c = search rules
 
-returns : tie.Need-returns
-returns c = sym (ap (with_bit c.before.args.number) c.if1.true)
+returns : tie.Need-returns-then-bit
+returns c = sym (ap (with_bit c.before.args.number) c.if-bit.true)
 
-mul-result-2 : tie.Need-overflow-mul-result-2
+mul-result-2 : tie.Need-overflow_mul-result-2
 mul-result-2 c = search rules
 
-returns-2 : tie.Need-returns-2
-returns-2 c = sym (ap (with_bit c.before.args.number) c.if1.false)
+returns-2 : tie.Need-returns
+returns-2 c = sym (ap (with_bit c.before.args.number) c.if-bit.false)
 
 pub with_bit_spec : {M : Type 1} → statement M
 with_bit_spec = tie.close (tie.spec mul-result add-result returns mul-result-2 returns-2)

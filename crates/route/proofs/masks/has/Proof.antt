@@ -5,19 +5,19 @@ use Rattle.route.specs.Values.{in_mask, LowPlace}
 use Rattle.route.proofs.masks.has.Statement.{statement}
 use Rattle.route.proofs.masks.has.Tie as tie
 
-enum-known-place : tie.Need-enum-known-place
+enum-known-place : tie.Need-enum_known-place
 enum-known-place c = search rules
 
-shr-result : tie.Need-overflow-shr-result
-shr-result c = subst LowPlace c.before.place.given.1 c.before.before.before.requires
+shr-result : tie.Need-overflow_shr-result
+shr-result c = subst LowPlace c.in-At.is c.before.requires
 
-enum_told : tie.Need-enum-told
+enum_told : tie.Need-enum_told-1
 enum_told c = search rules
 
-returns : tie.Need-returns
-returns c = sym (ap (in_mask c.before.before.before.args.mask) c.before.place.given.1)
+returns : tie.Need-returns-in-At
+returns c = sym (ap (in_mask c.before.args.mask) c.in-At.is)
 
-returns-2 : tie.Need-returns-2
+returns-2 : tie.Need-returns-in-Unnamed
 returns-2 c = search rules
 
 pub has_spec : {M : Type 1} → statement M

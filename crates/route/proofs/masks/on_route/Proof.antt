@@ -12,64 +12,64 @@ use Rattle.route.proofs.RouteBelts.{places, ids_next, ids_end, ids_at}
 use Rattle.route.proofs.masks.on_route.Statement.{statement}
 use Rattle.route.proofs.masks.on_route.Tie as tie
 
-abbrev invariant-loop : tie.invariant-loop
+abbrev invariant-loop : tie.invariant-loop-k
 invariant-loop places route mask₀ k₀ mask k =
     (route.count ≤ length route.belts) × (gathered_in places mask (drop k (ids_of route)) ≡ gathered_in places 0 (ids_of route))
 
-abbrev decreases-loop : tie.decreases-loop
+abbrev decreases-loop : tie.decreases-loop-k
 decreases-loop places route mask₀ k₀ mask k = route.count - k
 
 -- that the array has 255 elements is told by holding it (`good`)
-loop-holds : tie.Need-loop-init invariant-loop decreases-loop
+loop-holds : tie.Need-loop-k-init invariant-loop decreases-loop
 loop-holds c =
     let start = c in
-    let size = places start.args.t2 start.well-formed.1.0.1.1.1.0.1.0.1 in
+    let size = start.well_formed.1.0.1.1.1.0.1.0.1 in
     (omega (arith, start.requires.few), refl)
 
-mul-belt : tie.Need-overflow-mul-belt invariant-loop decreases-loop
-mul-belt c = omega (arith, c.loop-test.true, c.before.before.requires.few)
+mul-belt : tie.Need-offset_bounds-route-k invariant-loop decreases-loop
+mul-belt c = omega (arith, c.loop-k-test.true, c.before.before.requires.few)
 
-element-copy-out-belt : tie.Need-element-copy-out-belt invariant-loop decreases-loop
-element-copy-out-belt c = omega (arith, c.loop-test.true, c.before.before.requires.few)
+element-copy-out-belt : tie.Need-bounds-route-k invariant-loop decreases-loop
+element-copy-out-belt c = omega (arith, c.loop-k-test.true, c.before.before.requires.few)
 
 -- the belt of a turn can be looked up
-low : (c : tie.In-loop invariant-loop decreases-loop) →
+low : (c : tie.In-loop-k invariant-loop decreases-loop) →
     let a = c.before.before.args in
-    let e = (get_or a.t2.belts c.before.loop.k (belt_id 0)).0 in
+    let e = (get_or a.route.belts c.before.loop-k.k (belt_id 0)).0 in
     (e < max_records) × LowPlace (place_in a.places.now e)
 low c =
     let at = c.before in
     let start = at.before in
-    start.requires.low _ (ids_at start.args.t2 at.loop.invariant.0 at.loop.k c.loop-test.true)
+    start.requires.low _ (ids_at start.args.route at.loop-k.invariant.0 at.loop-k.k c.loop-k-test.true)
 
-place-of-requires : tie.Need-place-of-requires invariant-loop decreases-loop
-place-of-requires c κs = omega (arith, c.place-of-arg.given.0, (low c.before.before).0)
+place-of-requires : tie.Need-place_of-requires invariant-loop decreases-loop
+place-of-requires c κs = omega (arith, c.place_of-arg-1.given, (low c.before.before).0)
 
-with-requires : tie.Need-with-requires invariant-loop decreases-loop
+with-requires : tie.Need-with-mask-requires invariant-loop decreases-loop
 with-requires c κs = subst LowPlace (sym c.place_of.ensures) (low c.before.before.before).1
 
-add-k : tie.Need-overflow-add-k invariant-loop decreases-loop
+add-k : tie.Need-overflow_add-k invariant-loop decreases-loop
 add-k c = search rules
 
-loop-less : tie.Need-loop-smaller invariant-loop decreases-loop
+loop-less : tie.Need-loop-k-smaller invariant-loop decreases-loop
 loop-less c = search rules
 
-loop-again : tie.Need-loop-preserved invariant-loop decreases-loop
+loop-again : tie.Need-loop-k-preserved invariant-loop decreases-loop
 loop-again c =
     let turn = c.before.before.before.before in
     let at = turn.before in
     let a = at.before.args in
-    let next = ap (gathered_in a.places.now at.loop.mask) (ids_next a.t2 at.loop.invariant.0 at.loop.k turn.loop-test.true) in
-    let mask = c.with.ensures ∙ ap (with_place at.loop.mask) c.before.place_of.ensures in (
-      at.loop.invariant.0,
-      ap (λ (m : ℕ). gathered_in a.places.now m (drop (at.loop.k + 1) (ids_of a.t2))) mask ∙ sym next ∙ at.loop.invariant.1,
+    let next = ap (gathered_in a.places.now at.loop-k.mask) (ids_next a.route at.loop-k.invariant.0 at.loop-k.k turn.loop-k-test.true) in
+    let mask = c.with-mask.ensures ∙ ap (with_place at.loop-k.mask) c.before.place_of.ensures in (
+      at.loop-k.invariant.0,
+      ap (λ (m : ℕ). gathered_in a.places.now m (drop (at.loop-k.k + 1) (ids_of a.route))) mask ∙ sym next ∙ at.loop-k.invariant.1,
     )
 
 returns : tie.Need-returns invariant-loop decreases-loop
 returns c =
     let at = c.before in
     let a = at.before.args in
-    sym (ap (gathered_in a.places.now at.loop.mask) (ids_end a.t2 at.loop.invariant.0 at.loop.k c.loop-test.false)) ∙ at.loop.invariant.1
+    sym (ap (gathered_in a.places.now at.loop-k.mask) (ids_end a.route at.loop-k.invariant.0 at.loop-k.k c.loop-k-test.false)) ∙ at.loop-k.invariant.1
 
 pub on_route_spec : {M : Type 1} → statement M
 on_route_spec =

@@ -7,21 +7,21 @@ use Rattle.route.proofs.MaskBits.{shifted}
 use Rattle.route.proofs.masks.with.Statement.{statement}
 use Rattle.route.proofs.masks.with.Tie as tie
 
-enum-known-place : tie.Need-enum-known-place
+enum-known-place : tie.Need-enum_known-place
 enum-known-place c = search rules
 
-shl-result : tie.Need-overflow-shl-result
-shl-result c = subst LowPlace c.before.place.given.1 c.before.before.before.requires
+shl-result : tie.Need-overflow_shl-result
+shl-result c = subst LowPlace c.in-At.is c.before.requires
 
-enum_told : tie.Need-enum-told
+enum_told : tie.Need-enum_told-1
 enum_told c = search rules
 
-returns : tie.Need-returns
+returns : tie.Need-returns-in-At
 returns c =
-    let mask = c.before.before.before.args.mask in
-    ap (bit_or mask) (shifted c.before.place.given.0.0 64 (shl-result c)) ∙ sym (ap (with_place mask) c.before.place.given.1)
+    let mask = c.before.args.mask in
+    ap (bit_or mask) (shifted c.in-At.k 64 (shl-result c)) ∙ sym (ap (with_place mask) c.in-At.is)
 
-returns-2 : tie.Need-returns-2
+returns-2 : tie.Need-returns-in-Unnamed
 returns-2 c = search rules
 
 pub with_spec : {M : Type 1} → statement M

@@ -42,7 +42,7 @@ all_settings : (m σ : ℕ) → σ < 2 ^ m → settings_at m σ ≡ iota 0 (2 ^ 
 all_settings m σ low = ap (λ (q : ℕ). iota (q * 2 ^ m) (2 ^ m)) (div-eq_of_lt low) ∙ ap (λ (s : ℕ). iota s (2 ^ m)) (zero-mul (2 ^ m))
 
 -- where it was asked for
-abbrev start_of : tie.After-lock → tie.Start
+abbrev start_of : tie.After-lock-1 → tie.Start
 start_of c = c.before.before
 
 -- the values fit 16 bits
@@ -53,16 +53,16 @@ small c =
     let top = all_modes (plan_of w.0).modes (plan_sizes w.1.accepted).2 in
     omega arith
 
-cast-t6 : tie.Need-overflow-cast-t6
+cast-t6 : tie.Need-overflow_cast-modes
 cast-t6 c = omega (arith, few (start_of c))
 
-cast-settle : tie.Need-overflow-cast-settle
+cast-settle : tie.Need-overflow_cast-lock
 cast-settle c = omega (arith, small (start_of c.before))
 
 settle-requires : tie.Need-settle-requires
 settle-requires c κs =
     let start = start_of c.before in
-    let w = start.pre in
+    let w = start.requires in
     let modes = all_modes start.args.modes (few start) in (
       w.0,
       start.args.trip.lock,

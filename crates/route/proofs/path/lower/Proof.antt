@@ -14,7 +14,7 @@ use Rattle.route.specs.declared.path.Route.{Route}
 use Rattle.route.specs.Routes.{first}
 use Rattle.route.specs.Values.{ids_of, lower_ids}
 use Rattle.route.proofs.RouteOrder.{first_eq, first_ne}
-use Rattle.route.proofs.RouteBelts.{places, ids_next, ids_end}
+use Rattle.route.proofs.RouteBelts.{ids_next, ids_end}
 use Rattle.route.proofs.path.lower.Statement.{statement}
 use Rattle.route.proofs.path.lower.Tie as tie
 
@@ -47,83 +47,83 @@ first_ends a b fit k h = go (test (ltb k b.count))
     go (inl t) = (λ i. lower_ids (ids_end a fit.0 k h i) (ids_next b fit.1 k (ltb-true k b.count t) i)) ∙ sym t
     go (inr t) = (λ i. lower_ids (ids_end a fit.0 k h i) (ids_end b fit.1 k (ltb-false k b.count t) i)) ∙ sym t
 
-abbrev invariant-loop : tie.invariant-loop
+abbrev invariant-loop : tie.invariant-loop-k
 invariant-loop a b k₀ k = Fit a b × (k ≤ b.count) × (left_lower a b k ≡ lower_ids (ids_of a) (ids_of b))
 
-abbrev decreases-loop : tie.decreases-loop
+abbrev decreases-loop : tie.decreases-loop-k
 decreases-loop a b k₀ k = a.count - k
 
-loop-holds : tie.Need-loop-init invariant-loop decreases-loop
+loop-holds : tie.Need-loop-k-init invariant-loop decreases-loop
 loop-holds c =
     let start = c in
-    let size-a = places start.args.t1 start.well-formed.0.1.1.1.0.1.0.1 in
-    let size-b = places start.args.t2 start.well-formed.1.0.1.1.1.0.1.0.1 in
+    let size-a = start.well_formed.0.1.1.1.0.1.0.1 in
+    let size-b = start.well_formed.1.0.1.1.1.0.1.0.1 in
     ((omega (arith, start.requires.0), omega (arith, start.requires.1)), omega arith, refl)
 
-returns : tie.Need-returns invariant-loop decreases-loop
+returns : tie.Need-returns-then-k-b invariant-loop decreases-loop
 returns c =
     let turn = c.before in
     let at = turn.before in
     let start = at.before in
-    sym (first_on start.args.t1 start.args.t2 at.loop.invariant.0 at.loop.k turn.loop-test.true (omega (arith, c.if1.true)))
-    ∙ at.loop.invariant.2
+    sym (first_on start.args.a start.args.b at.loop-k.invariant.0 at.loop-k.k turn.loop-k-test.true (omega (arith, c.if-k-b.true)))
+    ∙ at.loop-k.invariant.2
 
-mul-first : tie.Need-overflow-mul-first invariant-loop decreases-loop
+mul-first : tie.Need-offset_bounds-a-k invariant-loop decreases-loop
 mul-first c = search rules
 
-element-copy-out-first : tie.Need-element-copy-out-first invariant-loop decreases-loop
+element-copy-out-first : tie.Need-bounds-a-k invariant-loop decreases-loop
 element-copy-out-first c = search rules
 
-mul-other : tie.Need-overflow-mul-other invariant-loop decreases-loop
+mul-other : tie.Need-offset_bounds-b-k invariant-loop decreases-loop
 mul-other c = search rules
 
-element-copy-out-other : tie.Need-element-copy-out-other invariant-loop decreases-loop
+element-copy-out-other : tie.Need-bounds-b-k invariant-loop decreases-loop
 element-copy-out-other c = search rules
 
 -- the second route goes on, too
-inside : (c : tie.Else1 invariant-loop decreases-loop) → c.before.before.loop.k < c.before.before.before.args.t2.count
-inside c = omega (arith, c.before.before.loop.invariant.1, c.if1.false)
+inside : (c : tie.Else-k-b invariant-loop decreases-loop) → c.before.before.loop-k.k < c.before.before.before.args.b.count
+inside c = omega (arith, c.before.before.loop-k.invariant.1, c.if-k-b.false)
 
 -- so the belts at this place decide, or else the rest
-decided : (c : tie.Else1 invariant-loop decreases-loop)
+decided : (c : tie.Else-k-b invariant-loop decreases-loop)
     → let at = c.before.before in
-    let a = at.before.args.t1 in
-    let b = at.before.args.t2 in
-    first (index_at a at.loop.k) (index_at b at.loop.k) (left_lower a b (at.loop.k + 1)) ≡ lower_ids (ids_of a) (ids_of b)
+    let a = at.before.args.a in
+    let b = at.before.args.b in
+    first (index_at a at.loop-k.k) (index_at b at.loop-k.k) (left_lower a b (at.loop-k.k + 1)) ≡ lower_ids (ids_of a) (ids_of b)
 decided c =
     let at = c.before.before in
     let start = at.before in
-    sym (both_on start.args.t1 start.args.t2 at.loop.invariant.0 at.loop.k c.before.loop-test.true (inside c)) ∙ at.loop.invariant.2
+    sym (both_on start.args.a start.args.b at.loop-k.invariant.0 at.loop-k.k c.before.loop-k-test.true (inside c)) ∙ at.loop-k.invariant.2
 
-returns-2 : tie.Need-returns-2 invariant-loop decreases-loop
+returns-2 : tie.Need-returns-then-first-other invariant-loop decreases-loop
 returns-2 c =
     let into = c.before.before.before.before.before.before.before in
     let at = into.before.before in
-    let a = at.before.args.t1 in
-    let b = at.before.args.t2 in
-    let k = at.loop.k in
-    sym (first_ne (index_at a k) (index_at b k) (left_lower a b (k + 1)) c.before.before.if2.true) ∙ decided into
+    let a = at.before.args.a in
+    let b = at.before.args.b in
+    let k = at.loop-k.k in
+    sym (first_ne (index_at a k) (index_at b k) (left_lower a b (k + 1)) c.before.before.if-first-other.true) ∙ decided into
 
-add-k : tie.Need-overflow-add-k invariant-loop decreases-loop
+add-k : tie.Need-overflow_add-k invariant-loop decreases-loop
 add-k c = search rules
 
-loop-less : tie.Need-loop-smaller invariant-loop decreases-loop
+loop-less : tie.Need-loop-k-smaller invariant-loop decreases-loop
 loop-less c = search rules
 
-loop-again : tie.Need-loop-preserved invariant-loop decreases-loop
+loop-again : tie.Need-loop-k-preserved invariant-loop decreases-loop
 loop-again c =
     let into = c.before.before.before.before.before in
     let at = into.before.before in
-    let a = at.before.args.t1 in
-    let b = at.before.args.t2 in
-    let k = at.loop.k in
-    (at.loop.invariant.0, omega (arith, inside into), sym (first_eq (index_at a k) (index_at b k) (left_lower a b (k + 1)) c.if2.false) ∙ decided into)
+    let a = at.before.args.a in
+    let b = at.before.args.b in
+    let k = at.loop-k.k in
+    (at.loop-k.invariant.0, omega (arith, inside into), sym (first_eq (index_at a k) (index_at b k) (left_lower a b (k + 1)) c.if-first-other.false) ∙ decided into)
 
-returns-3 : tie.Need-returns-3 invariant-loop decreases-loop
+returns-3 : tie.Need-returns invariant-loop decreases-loop
 returns-3 c =
     let at = c.before in
     let start = at.before in
-    sym (first_ends start.args.t1 start.args.t2 at.loop.invariant.0 at.loop.k c.loop-test.false) ∙ at.loop.invariant.2
+    sym (first_ends start.args.a start.args.b at.loop-k.invariant.0 at.loop-k.k c.loop-k-test.false) ∙ at.loop-k.invariant.2
 
 pub lower_spec : {M : Type 1} → statement M
 lower_spec =

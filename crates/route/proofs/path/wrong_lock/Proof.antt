@@ -23,7 +23,7 @@ begun c = c.before.before
 few : (c : tie.After-modes) → c.modes.result ≤ 10
 few c = omega (arith, (plan_sizes (begun c).requires).2, c.modes.ensures)
 
-shl-if1 : tie.Need-overflow-shl-if1
+shl-if1 : tie.Need-overflow_shl-modes
 shl-if1 c = omega (arith, few c)
 
 -- the number that the mask has to be below
@@ -34,18 +34,18 @@ top c = shifted c.modes.result 64 (omega (arith, few c)) ∙ ap (λ (n : ℕ). 2
 abbrev in_mask : tie.Start → Bool
 in_mask c = eqb (bit_and c.args.lock.values c.args.lock.mask) c.args.lock.values
 
-returns : tie.Need-returns
+returns : tie.Need-returns-then-modes-lock
 returns c =
     let asked = c.before.before in
     let start = begun asked in
-    let over = le-ltb start.args.lock.mask (2 ^ (plan_of start.args.p.now).modes) (omega (arith, top asked, c.if1.true)) in
+    let over = le-ltb start.args.lock.mask (2 ^ (plan_of start.args.p.now).modes) (omega (arith, top asked, c.if-modes-lock.true)) in
     sym (ap (λ (t : Bool). not (t && in_mask start)) over)
 
-returns-2 : tie.Need-returns-2
+returns-2 : tie.Need-returns
 returns-2 c =
     let asked = c.before.before.before.before in
     let start = begun asked in
-    let low = lt-ltb start.args.lock.mask (2 ^ (plan_of start.args.p.now).modes) (omega (arith, top asked, c.before.before.if1.false)) in
+    let low = lt-ltb start.args.lock.mask (2 ^ (plan_of start.args.p.now).modes) (omega (arith, top asked, c.before.before.if-modes-lock.false)) in
     sym (ap (λ (t : Bool). not (t && in_mask start)) low)
 
 pub wrong_lock_spec : {M : Type 1} → statement M

@@ -9,71 +9,71 @@ use Rattle.route.proofs.WalkOrder.{Ordered, ordered_start, ordered_shifted, orde
 use Rattle.route.proofs.relax.in_order.Statement.{statement}
 use Rattle.route.proofs.relax.in_order.Tie as tie
 
-abbrev invariant-loop : tie.invariant-loop
+abbrev invariant-loop : tie.invariant-loop-k
 invariant-loop numbers mask named due₀ k₀ due k = (k ≤ named) × Ordered numbers mask k due
 
-abbrev decreases-loop : tie.decreases-loop
+abbrev decreases-loop : tie.decreases-loop-k
 decreases-loop numbers mask named due₀ k₀ due k = named - k
 
-element-copy-out-wide : tie.Need-element-copy-out-wide invariant-loop decreases-loop
+element-copy-out-wide : tie.Need-bounds-numbers-610 invariant-loop decreases-loop
 element-copy-out-wide c = search rules
 
-wide-requires : tie.Need-wide-requires invariant-loop decreases-loop
+wide-requires : tie.Need-wide-named-requires invariant-loop decreases-loop
 wide-requires c κs = search rules
 
-loop-holds : tie.Need-loop-init invariant-loop decreases-loop
+loop-holds : tie.Need-loop-k-init invariant-loop decreases-loop
 loop-holds c = (search rules, ordered_start c.before.before.args.numbers.now c.before.before.args.mask)
 
 -- a turn of the loop: where the mask was asked for, and that k is below the number of named belts
-abbrev start : tie.In-loop invariant-loop decreases-loop → tie.Start invariant-loop decreases-loop
-start c = c.before.before.before.before
+abbrev start : tie.In-loop-k invariant-loop decreases-loop → tie.Start invariant-loop decreases-loop
+start c = c.before.before.before.before.before
 
-few : (c : tie.In-loop invariant-loop decreases-loop) → c.before.loop.k < max_named
-few c = omega (arith, c.loop-test.true, c.before.before.wide.ensures, (start c).requires.0)
+few : (c : tie.In-loop-k invariant-loop decreases-loop) → c.before.loop-k.k < max_named
+few c = omega (arith, c.loop-k-test.true, c.before.before.wide-named.ensures, (start c).requires.0)
 
-add_wide : tie.Need-overflow-add-wide invariant-loop decreases-loop
+add_wide : tie.Need-overflow_add-k invariant-loop decreases-loop
 add_wide c = omega (arith, few c)
 
-mul_wide : tie.Need-overflow-mul-wide invariant-loop decreases-loop
+mul_wide : tie.Need-offset_bounds-numbers-k invariant-loop decreases-loop
 mul_wide c = omega (arith, few c)
 
-element-copy-out-wide-2 : tie.Need-element-copy-out-wide-2 invariant-loop decreases-loop
-element-copy-out-wide-2 c = omega (arith, few c)
+element-copy-out-wide-2 : tie.Need-bounds-numbers-k invariant-loop decreases-loop
+element-copy-out-wide-2 c = omega (arith, few c.before)
 
-wide-requires-2 : tie.Need-wide-requires-2 invariant-loop decreases-loop
+wide-requires-2 : tie.Need-wide-place-requires invariant-loop decreases-loop
 wide-requires-2 c κs = search rules
 
-shr-due : tie.Need-overflow-shr-due invariant-loop decreases-loop
-shr-due c = let turn = c.before.before in omega (arith, c.wide2.ensures, (start turn).requires.1 turn.before.loop.k (few turn))
+shr-due : tie.Need-overflow_shr-due invariant-loop decreases-loop
+shr-due c = let turn = c.before.before in omega (arith, c.wide-place.ensures, (start turn.before).requires.1 turn.before.loop-k.k (few turn.before))
 
-shl-due : tie.Need-overflow-shl-due invariant-loop decreases-loop
-shl-due c = omega (arith, few c.before.before)
+shl-due : tie.Need-overflow_shl-due invariant-loop decreases-loop
+shl-due c = omega (arith, few c.before.before.before)
 
 -- the mask of one more
-next : (c : tie.After-wide2 invariant-loop decreases-loop) → let turn = c.before.before in let a = (start turn).args in let loop = turn.before.loop in
-    Ordered a.numbers.now a.mask (loop.k + 1) (loop.due + (a.mask / 2 ^ c.wide2.result % 2 * 2 ^ loop.k) % 2 ^ 64)
+next : (c : tie.After-wide-place invariant-loop decreases-loop) → let turn = c.before.before in let a = (start turn.before).args in let loop = turn.before.loop-k in
+    Ordered a.numbers.now a.mask (loop.k + 1) (loop.due + (a.mask / 2 ^ c.wide-place.result % 2 * 2 ^ loop.k) % 2 ^ 64)
 next c =
     let turn = c.before.before in
-    ordered_shifted turn.before.loop.invariant.1 c.wide2.result c.wide2.ensures (omega (arith, few turn))
+    ordered_shifted turn.before.loop-k.invariant.1 c.wide-place.result c.wide-place.ensures (omega (arith, few turn.before))
 
-add-due : tie.Need-overflow-add-due invariant-loop decreases-loop
-add-due c = omega (arith, ordered_low (next c) 64 (omega (arith, few c.before.before)))
+add-due : tie.Need-overflow_add-due invariant-loop decreases-loop
+add-due c = omega (arith, ordered_low (next c) 64 (omega (arith, few c.before.before.before)))
 
-add-k : tie.Need-overflow-add-k invariant-loop decreases-loop
-add-k c = omega (arith, few c.before.before)
+add-k : tie.Need-overflow_add-k-in-loop-k invariant-loop decreases-loop
+add-k c = omega (arith, few c.before.before.before)
 
-loop-less : tie.Need-loop-smaller invariant-loop decreases-loop
-loop-less c = omega (arith, c.before.before.loop-test.true)
+loop-less : tie.Need-loop-k-smaller invariant-loop decreases-loop
+loop-less c = omega (arith, c.before.before.loop-k-test.true)
 
-loop-again : tie.Need-loop-preserved invariant-loop decreases-loop
-loop-again c = (omega (arith, c.before.before.loop-test.true), next c)
+loop-again : tie.Need-loop-k-preserved invariant-loop decreases-loop
+loop-again c = (omega (arith, c.before.before.loop-k-test.true), next c)
 
 returns : tie.Need-returns invariant-loop decreases-loop
 returns c =
-    let loop = c.before.loop in
+    let loop = c.before.loop-k in
     let asked = c.before.before in
     let from = asked.before.before in
-    let end : loop.k ≡ named_at from.args.numbers.now = omega (arith, c.loop-test.false, loop.invariant.0, asked.wide.ensures) in
+    let end : loop.k ≡ named_at from.args.numbers.now = omega (arith, c.loop-k-test.false, loop.invariant.0, asked.wide-named.ensures) in
     let whole = subst (λ (n : ℕ). Ordered from.args.numbers.now from.args.mask n loop.due) end loop.invariant.1 in
     (ordered_low whole max_named from.requires.0, whole.has)
 

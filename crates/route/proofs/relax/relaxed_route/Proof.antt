@@ -1,7 +1,6 @@
 -- `relax::relaxed_route` meets its contract: the pass, where it finds a way the walk along it, and what the pass left is cleared (WalkAnswer.antt).
 -- Assumes nothing.
 use mathlib.Core.Path.{◌≡◌, sym, ◌∙◌, ap}
-use mathlib.Core.Logic.{⊎_elim}
 use mathlib.Core.Bool.{false}
 use mathlib.Core.Option.{Option, none}
 use Prim.Native.Nat.{ℕ, ◌+◌, ◌*◌, ◌-◌, ◌/◌, ◌≤◌}
@@ -21,6 +20,7 @@ use Rattle.route.proofs.RouteIndices.{ends_junctions}
 use Rattle.route.proofs.RelaxAsked.{none_apart, graph_placing}
 use Rattle.route.proofs.WalkAnswer.{none_past, Answer, pass_lost, pass_found}
 use Rattle.route.proofs.relax.relaxed_route.Statement.{statement}
+use Rattle.route.proofs.relax.relaxed_route.Lts.{else-way-ne-FAR, then-way-ne-FAR}
 use Rattle.route.proofs.relax.relaxed_route.Tie as tie
 
 -- the arrays are those of the plan b
@@ -41,10 +41,10 @@ ends c =
     let (from, _, to, high) = ends_junctions (plan_of b) c.args.trip.s c.args.trip.t e in
     (from, to, omega (arith, (plan_sizes g.accepted).1))
 
-sub-s : tie.Need-overflow-sub-s
+sub-s : tie.Need-overflow_sub-s
 sub-s c = (ends c.before).0
 
-sub-t : tie.Need-overflow-sub-t
+sub-t : tie.Need-overflow_sub-t
 sub-t c = (ends c.before).1
 
 -- where there is no route, nothing is answered and nothing is stored
@@ -58,120 +58,120 @@ dropped c v h b lost = (
 nothing-requires : tie.Need-nothing-requires
 nothing-requires c κs = search rules
 
-returns : tie.Need-returns
+returns : tie.Need-returns-then-t-s
 returns c =
     let from = c.before.before.before in
     let a = from.args in (
       search rules,
-      λ b g e o. dropped from _ c.nothing.ensures b (ap (at_most a.bound) (none_past g a.fixings a.trip.s a.trip.t e c.before.if1.true)),
+      λ b g e o. dropped from _ c.nothing.ensures b (ap (at_most a.bound) (none_past g a.fixings a.trip.s a.trip.t e c.before.if-t-s.true)),
     )
 
-nothing-requires-2 : tie.Need-nothing-requires-2
+nothing-requires-2 : tie.Need-nothing-requires-then-fixings-ne0
 nothing-requires-2 c κs = search rules
 
-returns-2 : tie.Need-returns-2
+returns-2 : tie.Need-returns-then-fixings-ne0
 returns-2 c =
     let from = c.before.before.before.before.before in
     let a = from.args in (
       search rules,
-      λ b g e o. dropped from _ c.nothing2.ensures b (ap (at_most a.bound) (none_apart g a.fixings a.trip.s a.trip.t o c.before.if2.true)),
+      λ b g e o. dropped from _ c.nothing-then-fixings-ne0.ensures b (ap (at_most a.bound) (none_apart g a.fixings a.trip.s a.trip.t o c.before.if-fixings-ne0.true)),
     )
 
-in-order-requires : tie.Need-in-order-requires
+in-order-requires : tie.Need-in_order-due-requires
 in-order-requires c κs = let g = c.before.before.before.before.requires.0.1 in (g.sound.named_few, g.sound.place_low)
 
-mul-ways-to : tie.Need-overflow-mul-ways-to
+mul-ways-to : tie.Need-overflow_mul-bound
 mul-ways-to c = search rules
 
-sub-ways-to : tie.Need-overflow-sub-ways-to
+sub-ways-to : tie.Need-overflow_sub-ways_to
 sub-ways-to c = search rules
 
-add-ways-to : tie.Need-overflow-add-ways-to
+add-ways-to : tie.Need-overflow_add-bound
 add-ways-to c = search rules
 
-ways-to-requires : tie.Need-ways-to-requires
+ways-to-requires : tie.Need-ways_to-way-requires
 ways-to-requires c κs =
     let due = c.before in
     let from = due.before.before.before.before.before in
     let g = from.requires.0.1 in (
       g.sound,
       from.requires.2,
-      due.before.before.before.if1.false,
+      due.before.before.before.if-t-s.false,
       omega (arith, (ends from).1, (ends from).2),
-      due.in_order.ensures.0,
+      due.in_order-due.ensures.0,
       omega (arith, from.requires.1),
       omega arith,
     )
 
 -- the pass was asked for
-abbrev ordered : tie.After-ways-to → tie.After-in-order
+abbrev ordered : tie.After-ways_to-way → tie.After-in_order-due
 ordered c = c.before.before
 
-abbrev start : tie.After-ways-to → tie.Start
+abbrev start : tie.After-ways_to-way → tie.Start
 start c = (ordered c).before.before.before.before.before
 
-abbrev limit : tie.After-ways-to → ℕ
+abbrev limit : tie.After-ways_to-way → ℕ
 limit c = (start c).args.bound * link_limit + (link_limit - 1)
 
-limits : (c : tie.After-ways-to) → limit c / link_limit ≡ (start c).args.bound
+limits : (c : tie.After-ways_to-way) → limit c / link_limit ≡ (start c).args.bound
 limits c = omega arith
 
 -- what it left
-abbrev ways' : tie.After-ways-to → List ℕ
-ways' c = c.ways-to.new.1.1.1.1.1.1.1.0
+abbrev ways' : tie.After-ways_to-way → List ℕ
+ways' c = c.ways_to-way.new.ways
 
-lost : (c : tie.After-ways-to) (b : List ℕ) → Of (start c) b → Ends (start c) b → c.ways-to.result ≡ far → route (start c) b ≡ none
+lost : (c : tie.After-ways_to-way) (b : List ℕ) → Of (start c) b → Ends (start c) b → c.ways_to-way.result ≡ far → route (start c) b ≡ none
 lost c b g e h =
     let a = (start c).args in
-    pass_lost g a.fixings a.trip.s a.trip.t e a.bound (limit c) (start c).requires.1 (limits c) (ordered c).before.if2.false
-    (ordered c).in_order.ensures.1 c.ways-to.ensures.1 h
+    pass_lost g a.fixings a.trip.s a.trip.t e a.bound (limit c) (ways' c) (start c).requires.1 (limits c) (ordered c).before.if-fixings-ne0.false
+    (ordered c).in_order-due.ensures.1 c.ways_to-way.ensures.1 h
 
-found : (c : tie.After-ways-to) (b : List ℕ) → Of (start c) b → Ends (start c) b → (c.ways-to.result ≡ far → ⊥) → let a = (start c).args in
-    Answer b a.fixings a.bound a.trip.s a.trip.t c.ways-to.result (ways' c)
+found : (c : tie.After-ways_to-way) (b : List ℕ) → Of (start c) b → Ends (start c) b → (c.ways_to-way.result ≡ far → ⊥) → let a = (start c).args in
+    Answer b a.fixings a.bound a.trip.s a.trip.t c.ways_to-way.result (ways' c)
 found c b g e h =
     let a = (start c).args in
-    pass_found g a.fixings a.trip.s a.trip.t e a.bound (limit c) (start c).requires.1 (limits c) (ordered c).before.if2.false
-    (ordered c).in_order.ensures.1 c.ways-to.ensures.1 h
+    pass_found g a.fixings a.trip.s a.trip.t e a.bound (limit c) (ways' c) (start c).requires.1 (limits c) (ordered c).before.if-fixings-ne0.false
+    (ordered c).in_order-due.ensures.1 c.ways_to-way.ensures.1 h
 
-nothing-requires-3 : tie.Need-nothing-requires-3
+nothing-requires-3 : tie.Need-nothing-summary-requires
 nothing-requires-3 c κs = search rules
 
-walk-requires : tie.Need-walk-requires
+walk-requires : tie.Need-walk-summary-requires
 walk-requires c κs =
-    let then = c.before.before in
+    let then = c.before in
     let pass = then.before.before in
     let (b, g, e, o) = (start pass).requires.0 in
-    let is = found pass b g e then.if3.true in
+    let is = found pass b g e then.if-way-ne-FAR.true in
     (omega (arith, (ends (start pass)).1, (ends (start pass)).2), graph_placing g, (is.route, is.trail))
 
 clear-requires : tie.Need-clear-requires
 clear-requires c κs =
     let pass = c.before.before.before in
-    (omega (arith, (ends (start pass)).2), pass.ways-to.ensures.0)
+    (omega (arith, (ends (start pass)).2), pass.ways_to-way.ensures.0)
 
-returns-3 : tie.Need-returns-3
+returns-3 : tie.Need-returns
 returns-3 c =
     let joined = c.before.before in
     let pass = joined.before.before in
     let from = start pass in
     let a = from.args in
     let room = a.walked.now in (
-      c.clear.ensures ∙ sym from.pre.2,
+      c.clear.ensures ∙ sym from.requires.2,
       λ b g e o.
-          ⊎_elim
-          (λ w.
-          let is = found pass b g e w.0.taken in
-          let (summary, stored) = w.3.ensures is.route is.trail in (
-            w.5
-                ∙ summary
-                ∙ (λ i. walk_as (g.placed i) (is.price i) is.route)
-                ∙ sym (ap (summary_as b) is.is),
-            w.4 ∙ stored ∙ sym (ap (λ (o' : Option (List Belt)). walked_of o' room) is.is),
-          ))
-          (λ w.
-          let (summary, stored) = dropped from _ joined.before.nothing3.ensures b (lost pass b g e w.0.left) in
-          (w.2 ∙ summary, w.1 ∙ stored))
-          joined.if3.branch,
+          elim joined.if-way-ne-FAR.branch [
+            | then-way-ne-FAR w ↦
+                let is = found pass b g e w.if-way-ne-FAR.true in
+                let (summary, stored) = w.walk-summary.ensures is.route is.trail in (
+                  w.summary-is
+                      ∙ summary
+                      ∙ (λ i. walk_as (g.placed i) (is.price i) is.route)
+                      ∙ sym (ap (summary_as b) is.is),
+                  w.walked-is ∙ stored ∙ sym (ap (λ (o' : Option (List Belt)). walked_of o' room) is.is),
+                )
+            | else-way-ne-FAR w ↦
+                let (summary, stored) = dropped from _ joined.before.nothing-summary.ensures b (lost pass b g e w.if-way-ne-FAR.false) in
+                (w.summary-is ∙ summary, w.walked-is ∙ stored)
+          ],
     )
 
 pub relaxed_route_spec : {M : Type 1} → statement M

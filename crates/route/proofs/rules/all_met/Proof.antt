@@ -25,11 +25,11 @@ use Rattle.route.proofs.rules.all_met.Tie as tie
 abbrev Of : List ℕ → Type 0
 Of clauses = (b : List ℕ) × Ruled b clauses
 
-abbrev invariant-loop : tie.invariant-loop
+abbrev invariant-loop : tie.invariant-loop-literal
 invariant-loop clauses belts setting next rule literal₀ literal =
     (w : Of clauses) → ahead.LiteralsAhead w.0 (has_belt w.0 belts) setting literal₀ literal
 
-abbrev decreases-loop : tie.decreases-loop
+abbrev decreases-loop : tie.decreases-loop-literal
 decreases-loop clauses belts setting next rule literal₀ literal = ahead.above literal
 
 abbrev invariant-rules : tie.invariant-rules
@@ -38,7 +38,7 @@ invariant-rules clauses belts setting next₀ next = (w : Of clauses) → ahead.
 abbrev decreases-rules : tie.decreases-rules
 decreases-rules clauses belts setting next₀ next = ahead.above next
 
-shared-slice-read-next : tie.Need-shared-slice-read-next invariant-loop decreases-loop invariant-rules decreases-rules
+shared-slice-read-next : tie.Need-bounds-clauses-0 invariant-loop decreases-loop invariant-rules decreases-rules
 shared-slice-read-next c =
     let w = c.before.before.requires in
     omega (arith, records_more w.1.accepted, w.1.clauses.records_fit)
@@ -63,13 +63,13 @@ rule_small : (c : tie.In-rules invariant-loop decreases-loop invariant-rules dec
     → (c.before.rules.next < records (begun c).requires.0) × (c.before.rules.next < max_records)
 rule_small c = let w = (begun c).requires in let low = rule_low w.1.accepted c.before.rules.next (rule_is c w) in (low.1, low.2)
 
-cast-rule : tie.Need-overflow-cast-rule invariant-loop decreases-loop invariant-rules decreases-rules
+cast-rule : tie.Need-overflow_cast-rule invariant-loop decreases-loop invariant-rules decreases-rules
 cast-rule c = omega (arith, (rule_small c).1)
 
-mul-rule : tie.Need-overflow-mul-rule invariant-loop decreases-loop invariant-rules decreases-rules
+mul-rule : tie.Need-offset_bounds-clauses-next invariant-loop decreases-loop invariant-rules decreases-rules
 mul-rule c = omega (arith, (rule_small c).1)
 
-shared-slice-read-rule : tie.Need-shared-slice-read-rule invariant-loop decreases-loop invariant-rules decreases-rules
+shared-slice-read-rule : tie.Need-bounds-clauses-next invariant-loop decreases-loop invariant-rules decreases-rules
 shared-slice-read-rule c = let turn = c.before in omega (arith, (rule_small turn).0, (begun turn).requires.1.clauses.records_fit)
 
 -- the two parts of its entry
@@ -79,7 +79,7 @@ parts : (c : tie.In-rules invariant-loop decreases-loop invariant-rules decrease
     (get_or cs r 0 % field_limit ≡ next_rule w.0 r) × (get_or cs r 0 / field_limit ≡ first_literal w.0 r)
 parts c w = rule_parts w.1.accepted w.1.clauses c.before.rules.next (rule_is c w)
 
-loop-holds : tie.Need-loop-init invariant-loop decreases-loop invariant-rules decreases-rules
+loop-holds : tie.Need-loop-literal-init invariant-loop decreases-loop invariant-rules decreases-rules
 loop-holds c =
     let turn = c.before in
     let at = turn.before in
@@ -89,69 +89,69 @@ loop-holds c =
     (parts turn w).1
 
 -- the turn of a rule in which that of a literal is
-abbrev outer : tie.In-loop invariant-loop decreases-loop invariant-rules decreases-rules → tie.In-rules invariant-loop decreases-loop invariant-rules decreases-rules
+abbrev outer : tie.In-loop-literal invariant-loop decreases-loop invariant-rules decreases-rules → tie.In-rules invariant-loop decreases-loop invariant-rules decreases-rules
 outer c = c.before.before.before
 
 -- the literal of a turn
-literal_is : (c : tie.In-loop invariant-loop decreases-loop invariant-rules decreases-rules) (w : OfTurn (outer c)) → IsLiteral w.0 c.before.loop.literal
-literal_is c w = (c.before.loop.invariant w).0 c.loop-test.true
+literal_is : (c : tie.In-loop-literal invariant-loop decreases-loop invariant-rules decreases-rules) (w : OfTurn (outer c)) → IsLiteral w.0 c.before.loop-literal.literal
+literal_is c w = (c.before.loop-literal.invariant w).0 c.loop-literal-test.true
 
-literal_small : (c : tie.In-loop invariant-loop decreases-loop invariant-rules decreases-rules)
-    → (c.before.loop.literal < records (begun (outer c)).pre.0) × (c.before.loop.literal < max_records)
+literal_small : (c : tie.In-loop-literal invariant-loop decreases-loop invariant-rules decreases-rules)
+    → (c.before.loop-literal.literal < records (begun (outer c)).requires.0) × (c.before.loop-literal.literal < max_records)
 literal_small c =
-    let w = (begun (outer c)).pre in
-    let low = literal_low w.1.accepted c.before.loop.literal (literal_is c w) in
+    let w = (begun (outer c)).requires in
+    let low = literal_low w.1.accepted c.before.loop-literal.literal (literal_is c w) in
     (low.1, low.2)
 
-cast-entry : tie.Need-overflow-cast-entry invariant-loop decreases-loop invariant-rules decreases-rules
+cast-entry : tie.Need-overflow_cast-entry invariant-loop decreases-loop invariant-rules decreases-rules
 cast-entry c = omega (arith, (literal_small c).1)
 
-mul-entry : tie.Need-overflow-mul-entry invariant-loop decreases-loop invariant-rules decreases-rules
+mul-entry : tie.Need-offset_bounds-clauses-literal invariant-loop decreases-loop invariant-rules decreases-rules
 mul-entry c = omega (arith, (literal_small c).1)
 
-shared-slice-read-entry : tie.Need-shared-slice-read-entry invariant-loop decreases-loop invariant-rules decreases-rules
+shared-slice-read-entry : tie.Need-bounds-clauses-literal invariant-loop decreases-loop invariant-rules decreases-rules
 shared-slice-read-entry c =
     let round = c.before in
-    omega (arith, (literal_small round).0, (begun (outer round)).pre.1.clauses.records_fit)
+    omega (arith, (literal_small round).0, (begun (outer round)).requires.1.clauses.records_fit)
 
 -- the two parts of its entry
-halves : (c : tie.In-loop invariant-loop decreases-loop invariant-rules decreases-rules) (w : OfTurn (outer c)) →
+halves : (c : tie.In-loop-literal invariant-loop decreases-loop invariant-rules decreases-rules) (w : OfTurn (outer c)) →
     let cs = (begun (outer c)).args.clauses.now in
-    let l = c.before.loop.literal in
+    let l = c.before.loop-literal.literal in
     (get_or cs l 0 % field_limit ≡ next_literal w.0 l) × (get_or cs l 0 / field_limit ≡ code_in (named_places w.0) (literal_at w.0 l))
-halves c w = literal_parts w.1.accepted w.1.clauses c.before.loop.literal (literal_is c w)
+halves c w = literal_parts w.1.accepted w.1.clauses c.before.loop-literal.literal (literal_is c w)
 
-coded-of-requires : tie.Need-coded-of-requires invariant-loop decreases-loop invariant-rules decreases-rules
+coded-of-requires : tie.Need-coded_of-requires invariant-loop decreases-loop invariant-rules decreases-rules
 coded-of-requires c κs = search rules
 
 -- what its code says
-told : (c : tie.After-coded-of invariant-loop decreases-loop invariant-rules decreases-rules) (w : OfTurn (outer c.before.before))
-    → c.coded-of.result ≡ coded_in (code_in (named_places w.0) (literal_at w.0 c.before.before.before.loop.literal))
-told c w = c.coded-of.ensures ∙ ap coded_in (halves c.before.before w).1
+told : (c : tie.After-coded_of invariant-loop decreases-loop invariant-rules decreases-rules) (w : OfTurn (outer c.before.before))
+    → c.coded_of.result ≡ coded_in (code_in (named_places w.0) (literal_at w.0 c.before.before.before.loop-literal.literal))
+told c w = c.coded_of.ensures ∙ ap coded_in (halves c.before.before w).1
 
 holds-requires : tie.Need-holds-requires invariant-loop decreases-loop invariant-rules decreases-rules
 holds-requires c κs =
     let round = c.before.before in
-    let w = (begun (outer round)).pre in
-    let l = round.before.loop.literal in
+    let w = (begun (outer round)).requires in
+    let l = round.before.loop-literal.literal in
     subst LowCoded (sym (told c w))
     (coded_low (named_places w.0) (literal_at w.0 l) (literal_codable w.1.accepted l (literal_is round w)))
 
 -- whether it holds is whether that is true
 said : (c : tie.After-holds invariant-loop decreases-loop invariant-rules decreases-rules) (w : OfTurn (outer c.before.before.before)) →
     let a = (begun (outer c.before.before.before)).args in
-    holds (has_belt w.0 a.belts) a.setting (literal_at w.0 c.before.before.before.before.loop.literal) ≡ c.holds.result
+    holds (has_belt w.0 a.belts) a.setting (literal_at w.0 c.before.before.before.before.loop-literal.literal) ≡ c.holds.result
 said c w =
     let round = c.before.before.before in
     let a = (begun (outer round)).args in
-    sym (literal_true w.1.accepted a.belts a.setting round.before.loop.literal (literal_is round w))
+    sym (literal_true w.1.accepted a.belts a.setting round.before.loop-literal.literal (literal_is round w))
     ∙ ap (λ (l : Coded). is_true l a.belts a.setting) (sym (told c.before w))
     ∙ sym c.holds.ensures
 
 rules-less : tie.Need-rules-smaller invariant-loop decreases-loop invariant-rules decreases-rules
 rules-less c =
     let turn = outer c.before.before.before.before in
-    let w = (begun turn).pre in
+    let w = (begun turn).requires in
     ahead.rule_rises w.1.accepted turn.before.rules.next (rule_is turn w) _ (parts turn w).0
 
 rules-again : tie.Need-rules-preserved invariant-loop decreases-loop invariant-rules decreases-rules
@@ -165,26 +165,26 @@ rules-again c =
     λ w.
     let ok = w.1.accepted in
     let on = has_belt w.0 a.belts in
-    let held = ahead.literals_held ok on σ _ inner.loop.literal (inner.loop.invariant w) round.loop-test.true (said c.before w ∙ c.if1.true) in
+    let held = ahead.literals_held ok on σ _ inner.loop-literal.literal (inner.loop-literal.invariant w) round.loop-literal-test.true (said c.before w ∙ c.if-holds.true) in
     let same = ap (λ (l : ℕ). met on σ (literals_from w.0 l)) (parts turn w).1 in
-    ahead.rules_met ok on σ at.rules.next (at.rules.inv w) turn.rules-test.taken _ (parts turn w).0 (sym same ∙ held)
+    ahead.rules_met ok on σ at.rules.next (at.rules.invariant w) turn.rules-test.true _ (parts turn w).0 (sym same ∙ held)
 
-loop-less : tie.Need-loop-smaller invariant-loop decreases-loop invariant-rules decreases-rules
+loop-less : tie.Need-loop-literal-smaller invariant-loop decreases-loop invariant-rules decreases-rules
 loop-less c =
     let round = c.before.before.before.before in
-    let w = (begun (outer round)).pre in
-    ahead.literal_rises w.1.accepted round.before.loop.literal (literal_is round w) _ (halves round w).0
+    let w = (begun (outer round)).requires in
+    ahead.literal_rises w.1.accepted round.before.loop-literal.literal (literal_is round w) _ (halves round w).0
 
-loop-again : tie.Need-loop-preserved invariant-loop decreases-loop invariant-rules decreases-rules
+loop-again : tie.Need-loop-literal-preserved invariant-loop decreases-loop invariant-rules decreases-rules
 loop-again c =
     let round = c.before.before.before.before in
     let inner = round.before in
     let a = (begun (outer round)).args in
     λ w.
-    ahead.literals_missed w.1.accepted (has_belt w.0 a.belts) a.setting _ inner.loop.literal (inner.loop.invariant w) round.loop-test.true
-    (said c.before w ∙ c.if1.false) _ (halves round w).0
+    ahead.literals_missed w.1.accepted (has_belt w.0 a.belts) a.setting _ inner.loop-literal.literal (inner.loop-literal.invariant w) round.loop-literal-test.true
+    (said c.before w ∙ c.if-holds.false) _ (halves round w).0
 
-returns : tie.Need-returns invariant-loop decreases-loop invariant-rules decreases-rules
+returns : tie.Need-returns-in-rules invariant-loop decreases-loop invariant-rules decreases-rules
 returns c =
     let inner = c.before in
     let turn = inner.before.before in
@@ -195,11 +195,11 @@ returns c =
     let w : Of a.clauses.now = (b, ruled) in
     let ok = ruled.accepted in
     let on = has_belt b a.belts in
-    let missed = ahead.literals_done ok on σ _ inner.loop.literal (inner.loop.invariant w) c.loop-test.false in
+    let missed = ahead.literals_done ok on σ _ inner.loop-literal.literal (inner.loop-literal.invariant w) c.loop-literal-test.false in
     let same = ap (λ (l : ℕ). met on σ (literals_from b l)) (parts turn w).1 in
     ahead.rules_unmet ok on σ at.rules.next (at.rules.invariant w) turn.rules-test.true (sym same ∙ missed)
 
-returns-2 : tie.Need-returns-2 invariant-loop decreases-loop invariant-rules decreases-rules
+returns-2 : tie.Need-returns invariant-loop decreases-loop invariant-rules decreases-rules
 returns-2 c =
     let at = c.before in
     let a = at.before.before.before.args in

@@ -6,17 +6,17 @@ use borrow.Author.Rules.{rules}
 use Rattle.route.proofs.sheet.next_of.Statement.{statement}
 use Rattle.route.proofs.sheet.next_of.Tie as tie
 
-add-result : tie.Need-overflow-add-result
+add-result : tie.Need-overflow_add-result
 add-result c = search rules
 
-cast-result : tie.Need-overflow-cast-result
+cast-result : tie.Need-overflow_cast-result
 cast-result c = search rules
 
-returns : tie.Need-returns
-returns c = rw (lt-ltb _ _ c.if1.true) (add-one _)
+returns : tie.Need-returns-then-i-count
+returns c = rw (lt-ltb _ _ c.if-i-count.true) (add-one _)
 
-returns-2 : tie.Need-returns-2
-returns-2 c = rw (le-ltb _ _ c.if1.false) refl
+returns-2 : tie.Need-returns
+returns-2 c = rw (le-ltb _ _ c.if-i-count.false) refl
 
 pub next_of_spec : {M : Type 1} → statement M
 next_of_spec = tie.close (tie.spec add-result cast-result returns returns-2)

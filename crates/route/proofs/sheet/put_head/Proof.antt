@@ -4,22 +4,22 @@ use borrow.Author.Rules.{rules}
 use Rattle.route.proofs.sheet.put_head.Statement.{statement}
 use Rattle.route.proofs.sheet.put_head.Tie as tie
 
-cast-high : tie.Need-overflow-cast-high
+cast-high : tie.Need-overflow_cast-high
 cast-high c = search rules
 
-cast-middle : tie.Need-overflow-cast-middle
+cast-middle : tie.Need-overflow_cast-middle
 cast-middle c = search rules
 
-cast-low : tie.Need-overflow-cast-low
+cast-low : tie.Need-overflow_cast-low
 cast-low c = search rules
 
-next-of-requires : tie.Need-next-of-requires
+next-of-requires : tie.Need-next_of-requires
 next-of-requires c κs = search rules
 
-put-record-requires : tie.Need-put-record-requires
+put-record-requires : tie.Need-put_record-requires
 put-record-requires c κs = search rules
 
-same_length : tie.Need-same-length
+same_length : tie.Need-shape_of-out
 same_length c = search rules
 
 returns : tie.Need-returns

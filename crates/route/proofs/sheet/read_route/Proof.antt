@@ -14,56 +14,56 @@ use Rattle.route.proofs.SheetForm.{belts_from, belts_next, belts_done}
 use Rattle.route.proofs.sheet.read_route.Statement.{statement}
 use Rattle.route.proofs.sheet.read_route.Tie as tie
 
-abbrev invariant-loop : tie.invariant-loop
+abbrev invariant-loop : tie.invariant-loop-k
 invariant-loop h count belts₀ k₀ belts k = sets belts k (belts_from h k count) ≡ (packed (belts_on h)).belts
 
-abbrev decreases-loop : tie.decreases-loop
+abbrev decreases-loop : tie.decreases-loop-k
 decreases-loop h count belts₀ k₀ belts k = count - k
 
-sub-count : tie.Need-overflow-sub-count invariant-loop decreases-loop
+sub-count : tie.Need-overflow_sub-count invariant-loop decreases-loop
 sub-count c = omega (arith, (form_is _ c.before.requires).least)
 
-loop-holds : tie.Need-loop-init invariant-loop decreases-loop
+loop-holds : tie.Need-loop-k-init invariant-loop decreases-loop
 loop-holds c = let h = c.before.args.h.now in packed_sets (belts_on h) (few_belts h (form_is h c.before.requires))
 
 -- a step of the sheet is there, and so is its place in the array
-room : (c : tie.In-loop invariant-loop decreases-loop)
-    → (record_bytes * (c.before.loop.k + 1) + record_bytes ≤ length c.before.before.before.args.h.now) × (c.before.loop.k < max_steps)
+room : (c : tie.In-loop-k invariant-loop decreases-loop)
+    → (record_bytes * (c.before.loop-k.k + 1) + record_bytes ≤ length c.before.before.before.args.h.now) × (c.before.loop-k.k < max_steps)
 room c =
     let start = c.before.before.before in
     let s = form_is start.args.h.now start.requires in
-    (omega (arith, c.loop-test.true, s.least), omega (arith, c.loop-test.true, s.most))
+    (omega (arith, c.loop-k-test.true, s.least), omega (arith, c.loop-k-test.true, s.most))
 
-add-field : tie.Need-overflow-add-field invariant-loop decreases-loop
+add-field : tie.Need-overflow_add-k invariant-loop decreases-loop
 add-field c = omega (arith, (room c).1)
 
 field-requires : tie.Need-field-requires invariant-loop decreases-loop
 field-requires c κs = (omega arith, (room c).0)
 
-mul-belts : tie.Need-overflow-mul-belts invariant-loop decreases-loop
+mul-belts : tie.Need-offset_bounds-belts-k invariant-loop decreases-loop
 mul-belts c = omega (arith, (room c.before).1)
 
-array-set-from-belts : tie.Need-array-set-from-belts invariant-loop decreases-loop
+array-set-from-belts : tie.Need-bounds-belts-k invariant-loop decreases-loop
 array-set-from-belts c = (room c.before).1
 
-add-k : tie.Need-overflow-add-k invariant-loop decreases-loop
+add-k : tie.Need-overflow_add-k-in-loop-k invariant-loop decreases-loop
 add-k c = omega (arith, (room c.before).1)
 
-loop-less : tie.Need-loop-smaller invariant-loop decreases-loop
-loop-less c = omega (arith, c.before.loop-test.true)
+loop-less : tie.Need-loop-k-smaller invariant-loop decreases-loop
+loop-less c = omega (arith, c.before.loop-k-test.true)
 
-loop-again : tie.Need-loop-preserved invariant-loop decreases-loop
+loop-again : tie.Need-loop-k-preserved invariant-loop decreases-loop
 loop-again c =
     let at = c.before in
-    let loop = at.before.loop in
+    let loop = at.before.loop-k in
     let h = at.before.before.before.args.h.now in
-    belts_next h loop.belts loop.k (steps h) _ at.loop-test.true c.field.ensures ∙ loop.invariant
+    belts_next h loop.belts loop.k (steps h) _ at.loop-k-test.true c.field.ensures ∙ loop.invariant
 
 returns : tie.Need-returns invariant-loop decreases-loop
 returns c =
-    let loop = c.before.loop in
+    let loop = c.before.loop-k in
     let h = c.before.before.before.args.h.now in
-    let full = sym (belts_done h loop.belts loop.k (steps h) c.loop-test.false) ∙ loop.invariant in
+    let full = sym (belts_done h loop.belts loop.k (steps h) c.loop-k-test.false) ∙ loop.invariant in
     λ i. record { count = sym (length_belts h) i; belts = full i }
 
 pub read_route_spec : {M : Type 1} → statement M

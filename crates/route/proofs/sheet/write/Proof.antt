@@ -5,29 +5,29 @@ use lib.ListN.{length}
 use borrow.Author.Rules.{rules}
 use Rattle.plan.specs.Bounds.{max_steps}
 use Rattle.route.specs.Values.{ids_of}
-use Rattle.route.proofs.RouteBelts.{places, length_first}
+use Rattle.route.proofs.RouteBelts.{length_first}
 use Rattle.route.proofs.SheetWriting.{written}
 use Rattle.route.proofs.sheet.write.Statement.{statement}
 use Rattle.route.proofs.sheet.write.Tie as tie
 
-put-head-requires : tie.Need-put-head-requires
+put-head-requires : tie.Need-put_head-requires
 put-head-requires c κs = search rules
 
-put-steps-requires : tie.Need-put-steps-requires
+put-steps-requires : tie.Need-put_steps-requires
 put-steps-requires c κs = search rules
 
-mul-result : tie.Need-overflow-mul-result
+mul-result : tie.Need-overflow_mul-result
 mul-result c = search rules
 
-add-result : tie.Need-overflow-add-result
+add-result : tie.Need-overflow_add-result
 add-result c = search rules
 
-same_length : tie.Need-same-length
+same_length : tie.Need-shape_of-out
 same_length c = search rules
 
 -- owning a sheet tells that its route's array has 255 places
 full : (c : tie.Start) → length c.args.sheet.route.belts ≡ max_steps
-full c = places c.args.sheet.route c.well-formed.1.0.1.1.0.1.1.1.0.1.0.1
+full c = c.well_formed.1.0.1.1.0.1.1.1.0.1.0.1
 
 returns : tie.Need-returns
 returns c =
@@ -36,8 +36,8 @@ returns c =
     written start.args.out.now (ids_of v.route) _ _ v.route.count v.cost v.setting
     (length_first v.route.count v.route.belts (omega (arith, start.requires.0, full start)))
     start.requires.2
-    c.before.before.before.before.before.before.before.put-head.ensures
-    c.before.before.before.put-steps.ensures
+    c.before.before.before.before.before.before.before.put_head.ensures
+    c.before.before.before.put_steps.ensures
 
 pub write_spec : {M : Type 1} → statement M
 write_spec =

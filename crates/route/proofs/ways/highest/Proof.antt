@@ -9,10 +9,10 @@ use Rattle.route.proofs.ways.highest.Tie as tie
 top : (c : tie.Start) → (j : ℕ) × (count_leading_zeros 64 c.args.mask + suc j ≡ 64) × (2 ^ j ≤ c.args.mask) × (c.args.mask < 2 ^ suc j)
 top c = leading_top 64 c.args.mask c.requires c.ranges.mask.fits
 
-cast-result : tie.Need-overflow-cast-result
+cast-result : tie.Need-overflow_cast-result
 cast-result c = omega (arith, (top c).1)
 
-sub-result : tie.Need-overflow-sub-result
+sub-result : tie.Need-overflow_sub-result
 sub-result c = omega (arith, (top c).1)
 
 returns : tie.Need-returns

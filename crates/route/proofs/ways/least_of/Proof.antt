@@ -5,10 +5,10 @@ use native.Mathlib.Omega.{arith}
 use Rattle.route.proofs.ways.least_of.Statement.{statement}
 use Rattle.route.proofs.ways.least_of.Tie as tie
 
-returns : tie.Need-returns
+returns : tie.Need-returns-then-a-b
 returns c = (omega arith, omega arith, inl refl)
 
-returns-2 : tie.Need-returns-2
+returns-2 : tie.Need-returns
 returns-2 c = (omega arith, omega arith, inr refl)
 
 pub least_of_spec : {M : Type 1} → statement M

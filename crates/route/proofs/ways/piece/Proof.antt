@@ -22,14 +22,14 @@ Known words numbers forbidden low nearest ways₀ ways u =
 abbrev Kept : ℕ → ℕ → List ℕ → List ℕ → Type 0
 Kept low nearest ways₀ ways = (s t : ℕ) → s ≤ low → nearest ≤ t → Spared s t ways₀ → Spared s t ways
 
-abbrev invariant-loop : tie.invariant-loop
+abbrev invariant-loop : tie.invariant-loop-u
 invariant-loop words numbers forbidden low nearest ways₀ u₀ ways u =
     (u ≤ nearest) × Room ways × Kept low nearest ways₀ ways × Known words numbers forbidden low nearest ways₀ ways u
 
-abbrev decreases-loop : tie.decreases-loop
+abbrev decreases-loop : tie.decreases-loop-u
 decreases-loop words numbers forbidden low nearest ways₀ u₀ ways u = u
 
-loop-holds : tie.Need-loop-init invariant-loop decreases-loop
+loop-holds : tie.Need-loop-u-init invariant-loop decreases-loop
 loop-holds c =
     let a = c.before.args in (
       omega arith,
@@ -38,49 +38,49 @@ loop-holds c =
       λ b x due t p h i from to. let q : a.nearest ≡ i = omega arith in subst (Ready b x t a.ways.now) q h,
     )
 
-sub-u : tie.Need-overflow-sub-u invariant-loop decreases-loop
+sub-u : tie.Need-overflow_sub-u invariant-loop decreases-loop
 sub-u c = search rules
 
 -- the place of a turn
-below : (c : tie.In-loop invariant-loop decreases-loop) → c.before.loop.u - 1 < max_junctions
-below c = omega (arith, c.before.loop.invariant.0, c.before.before.before.requires.2)
+below : (c : tie.In-loop-u invariant-loop decreases-loop) → c.before.loop-u.u - 1 < max_junctions
+below c = omega (arith, c.before.loop-u.invariant.0, c.before.before.before.requires.2)
 
-least-at-requires : tie.Need-least-at-requires invariant-loop decreases-loop
+least-at-requires : tie.Need-least_at-least-requires invariant-loop decreases-loop
 least-at-requires c κs =
-    let from = c.before.before.before.before in
-    (from.requires.0, c.before.before.loop.invariant.1.low, below c.before)
+    let from = c.before.before.before in
+    (from.requires.0, c.before.loop-u.invariant.1.low, below c)
 
-sub-ways : tie.Need-overflow-sub-ways invariant-loop decreases-loop
+sub-ways : tie.Need-overflow_sub-ways invariant-loop decreases-loop
 sub-ways c = search rules
 
-mul-ways : tie.Need-overflow-mul-ways invariant-loop decreases-loop
-mul-ways c = omega (arith, below c.before.before)
+mul-ways : tie.Need-offset_bounds-ways-u invariant-loop decreases-loop
+mul-ways c = omega (arith, below c.before)
 
-element-write-ways : tie.Need-element-write-ways invariant-loop decreases-loop
+element-write-ways : tie.Need-bounds-ways-u invariant-loop decreases-loop
 element-write-ways c = omega (arith, below c.before.before)
 
-add-ways : tie.Need-overflow-add-ways invariant-loop decreases-loop
+add-ways : tie.Need-overflow_add-ways invariant-loop decreases-loop
 add-ways c = omega (arith, below c.before.before)
 
-mul-ways-2 : tie.Need-overflow-mul-ways-2 invariant-loop decreases-loop
+mul-ways-2 : tie.Need-offset_bounds-ways-u-in-loop-u invariant-loop decreases-loop
 mul-ways-2 c = omega (arith, below c.before.before)
 
-element-write-ways-2 : tie.Need-element-write-ways-2 invariant-loop decreases-loop
+element-write-ways-2 : tie.Need-bounds-ways-u-in-loop-u invariant-loop decreases-loop
 element-write-ways-2 c = omega (arith, below c.before.before)
 
-loop-less : tie.Need-loop-smaller invariant-loop decreases-loop
+loop-less : tie.Need-loop-u-smaller invariant-loop decreases-loop
 loop-less c = search rules
 
-loop-again : tie.Need-loop-preserved invariant-loop decreases-loop
+loop-again : tie.Need-loop-u-preserved invariant-loop decreases-loop
 loop-again c =
     let turn = c.before.before in
-    let loop = turn.before.loop in
+    let loop = turn.before.loop-u in
     let (high, room, kept, known) = loop.invariant in
-    let v = c.least_at.result in
+    let v = c.least_at-least.result in
     let u = loop.u - 1 in
     let under = below turn in
-    let over = turn.loop-test.true in
-    let rows = c.least_at.ensures in (
+    let over = turn.loop-u-test.true in
+    let rows = c.least_at-least.ensures in (
       omega arith,
       room_entered loop.ways u v (omega (arith, rows.of_named.start, rows.of_others.start)) room,
       λ s t h k is. spared_entered loop.ways u v under (omega arith) (omega arith) (kept s t h k is),
@@ -90,8 +90,8 @@ loop-again c =
 
 returns : tie.Need-returns invariant-loop decreases-loop
 returns c =
-    let (high, room, kept, known) = c.before.loop.invariant in
-    (room, kept, λ b x due t p h i from to. known b x due t p h i (omega (arith, c.loop-test.false)) to)
+    let (high, room, kept, known) = c.before.loop-u.invariant in
+    (room, kept, λ b x due t p h i from to. known b x due t p h i (omega (arith, c.loop-u-test.false)) to)
 
 pub piece_spec : {M : Type 1} → statement M
 piece_spec =

@@ -21,7 +21,7 @@ use Rattle.route.proofs.WaysTurns.{turn_start, turn_down, turn_past, turn_piece,
 use Rattle.route.proofs.ways.ways_to.Statement.{statement}
 use Rattle.route.proofs.ways.ways_to.Tie as tie
 
-abbrev invariant-loop : tie.invariant-loop
+abbrev invariant-loop : tie.invariant-loop-left
 invariant-loop words numbers due forbidden limit s t ways₀ left₀ nearest₀ ways left nearest =
     (s ≤ nearest)
     × (nearest ≤ t)
@@ -30,10 +30,10 @@ invariant-loop words numbers due forbidden limit s t ways₀ left₀ nearest₀ 
     × Spared s t ways
     × ((b : List ℕ) (x : Subproblem) → Asked b x words numbers due forbidden t → Parted b x words numbers due t left nearest ways)
 
-abbrev decreases-loop : tie.decreases-loop
+abbrev decreases-loop : tie.decreases-loop-left
 decreases-loop words numbers due forbidden limit s t ways₀ left₀ nearest₀ ways left nearest = left
 
-loop-holds : tie.Need-loop-init invariant-loop decreases-loop
+loop-holds : tie.Need-loop-left-init invariant-loop decreases-loop
 loop-holds c =
     let from = c.before in
     let a = from.args in
@@ -41,280 +41,280 @@ loop-holds c =
     let (room, spared) = ways_clear a.ways.now zero in
     (order, omega arith, few, room, spared a.s a.t, λ b x q. parted_start q a.ways.now ((spared a.t a.t).above a.t (omega arith) inside).0)
 
-highest-requires : tie.Need-highest-requires invariant-loop decreases-loop
+highest-requires : tie.Need-highest-k-requires invariant-loop decreases-loop
 highest-requires c κs = search rules
 
 -- a turn of the loop: where the pass was asked for
-abbrev start : tie.After-highest invariant-loop decreases-loop → tie.Start invariant-loop decreases-loop
+abbrev start : tie.After-highest-k invariant-loop decreases-loop → tie.Start invariant-loop decreases-loop
 start p = p.before.before.before.before
 
 -- the place of a turn, which the masks have
-place_low : (p : tie.After-highest invariant-loop decreases-loop) → p.highest.result < max_named
-place_low p = top_low p.before.before.loop.left p.highest.result max_named p.highest.ensures.0 p.before.before.loop.invariant.2
+place_low : (p : tie.After-highest-k invariant-loop decreases-loop) → p.highest-k.result < max_named
+place_low p = top_low p.loop-left.left p.highest-k.result max_named p.highest-k.ensures.0 p.before.before.loop-left.invariant.2
 
-add_wide : tie.Need-overflow-add-wide invariant-loop decreases-loop
+add_wide : tie.Need-overflow_add-k invariant-loop decreases-loop
 add_wide c = omega (arith, place_low c)
 
-mul_wide : tie.Need-overflow-mul-wide invariant-loop decreases-loop
+mul_wide : tie.Need-offset_bounds-numbers-k invariant-loop decreases-loop
 mul_wide c = omega (arith, place_low c)
 
-element-copy-out-wide : tie.Need-element-copy-out-wide invariant-loop decreases-loop
-element-copy-out-wide c = omega (arith, place_low c)
+element-copy-out-wide : tie.Need-bounds-numbers-k invariant-loop decreases-loop
+element-copy-out-wide c = omega (arith, place_low c.before)
 
-wide-requires : tie.Need-wide-requires invariant-loop decreases-loop
+wide-requires : tie.Need-wide-tail-requires invariant-loop decreases-loop
 wide-requires c κs = search rules
 
-mul-word : tie.Need-overflow-mul-word invariant-loop decreases-loop
+mul-word : tie.Need-offset_bounds-words-k invariant-loop decreases-loop
 mul-word c = search rules
 
-shared-slice-read-word : tie.Need-shared-slice-read-word invariant-loop decreases-loop
+shared-slice-read-word : tie.Need-bounds-words-k invariant-loop decreases-loop
 shared-slice-read-word c =
-    let picked = c.before.before.before in
+    let picked = c.before.before.before.before in
     omega (arith, place_low picked, (start picked).requires.0.words_fit)
 
 -- ---- before the piece
 
 -- what is wanted of a turn: that FAR is the answer, if there is no route within the bound
-abbrev Of : tie.After-highest invariant-loop decreases-loop → List ℕ → Subproblem → Type 0
+abbrev Of : tie.After-highest-k invariant-loop decreases-loop → List ℕ → Subproblem → Type 0
 Of p b x = let a = (start p).args in Asked b x a.words.now a.numbers.now a.due a.forbidden a.t
 
-abbrev found : tie.After-highest invariant-loop decreases-loop → List ℕ → Subproblem → Option (List Belt)
+abbrev found : tie.After-highest-k invariant-loop decreases-loop → List ℕ → Subproblem → Option (List Belt)
 found p b x = let a = (start p).args in relaxed (plan_of b) (suc a.s) (suc a.t) x
 
-state : (p : tie.After-highest invariant-loop decreases-loop) (b : List ℕ) (x : Subproblem) → Of p b x → let a = (start p).args in let loop = p.before.before.loop in
+state : (p : tie.After-highest-k invariant-loop decreases-loop) (b : List ℕ) (x : Subproblem) → Of p b x → let a = (start p).args in let loop = p.before.before.loop-left in
     Parted b x a.words.now a.numbers.now a.due a.t loop.left loop.nearest loop.ways
-state p b x q = p.before.before.loop.invariant.5 b x q
+state p b x q = p.before.before.loop-left.invariant.5 b x q
 
 -- there is no relaxed route: FAR is the answer
 lost : (bound : ℕ) (o : Option (List Belt)) (ways : List ℕ) → o ≡ none
     → (far ≡ rest_of (at_most bound o)) × (far < far → (r : List Belt) → o ≡ some r → Traces ways r)
 lost bound o ways h = (sym (ap (λ (w : Option (List Belt)). rest_of (at_most bound w)) h), λ l. absurd (omega arith))
 
-returns : tie.Need-returns invariant-loop decreases-loop
+returns : tie.Need-returns-then-tail-s invariant-loop decreases-loop
 returns c =
     let picked = c.before.before.before.before in
-    let loop = picked.before.before.loop in
-    let a = (start picked).args in
-    let (low, high, under) = picked.highest.ensures in (
+    let loop = picked.before.before.loop-left in
+    let a = (start picked.before).args in
+    let (low, high, under) = picked.highest-k.ensures in (
       loop.invariant.4,
       λ b x q.
-          lost (a.limit / link_limit) (found picked b x) loop.ways
-          (turn_start q (state picked b x q) picked.highest.result low high a.s (omega (arith, c.if1.true, c.before.before.wide.ensures))),
+          lost (a.limit / link_limit) (found picked.before b x) loop.ways
+          (turn_start q (state picked.before b x q) picked.highest-k.result low high a.s (omega (arith, c.if-tail-s.true, c.before.before.wide-tail.ensures))),
     )
 
-returns-2 : tie.Need-returns-2 invariant-loop decreases-loop
+returns-2 : tie.Need-returns-then-low-tail invariant-loop decreases-loop
 returns-2 c =
     let picked = c.before.before.before.before.before in
-    let loop = picked.before.before.loop in
-    let (low, high, under) = picked.highest.ensures in (
+    let loop = picked.before.before.loop-left in
+    let (low, high, under) = picked.highest-k.ensures in (
       loop.invariant.4,
       λ b x q.
           absurd
-          (omega (arith, c.if2.true, c.before.before.before.wide.ensures, turn_down q (state picked b x q) picked.highest.result low high)),
+          (omega (arith, c.if-low-tail.true, c.before.before.before.wide-tail.ensures, turn_down q (state picked.before b x q) picked.highest-k.result low high)),
     )
 
-returns-3 : tie.Need-returns-3 invariant-loop decreases-loop
+returns-3 : tie.Need-returns-then-nearest-low invariant-loop decreases-loop
 returns-3 c =
     let picked = c.before.before.before.before.before.before in
-    let loop = picked.before.before.loop in
-    let a = (start picked).args in
-    let (low, high, under) = picked.highest.ensures in (
+    let loop = picked.before.before.loop-left in
+    let a = (start picked.before).args in
+    let (low, high, under) = picked.highest-k.ensures in (
       loop.invariant.4,
       λ b x q.
-          lost (a.limit / link_limit) (found picked b x) loop.ways
-          (turn_past q (state picked b x q) picked.highest.result low high a.s c.if3.true),
+          lost (a.limit / link_limit) (found picked.before b x) loop.ways
+          (turn_past q (state picked.before b x q) picked.highest-k.result low high a.s c.if-nearest-low.true),
     )
 
 piece-requires : tie.Need-piece-requires invariant-loop decreases-loop
 piece-requires c κs =
     let picked = c.before.before.before.before.before.before.before in
-    let loop = picked.before.before.loop in
-    ((start picked).requires.0, loop.invariant.3, omega (arith, loop.invariant.1, (start picked).requires.3))
+    let loop = picked.before.before.loop-left in
+    ((start picked.before).requires.0, loop.invariant.3, omega (arith, loop.invariant.1, (start picked.before).requires.3))
 
-mul-way : tie.Need-overflow-mul-way invariant-loop decreases-loop
+mul-way : tie.Need-offset_bounds-ways-low invariant-loop decreases-loop
 mul-way c = search rules
 
-element-copy-out-way : tie.Need-element-copy-out-way invariant-loop decreases-loop
+element-copy-out-way : tie.Need-bounds-ways-low invariant-loop decreases-loop
 element-copy-out-way c = search rules
 
 -- ---- once the piece is done
 
-abbrev picked : tie.After-piece invariant-loop decreases-loop → tie.After-highest invariant-loop decreases-loop
-picked d = d.before.before.before.before.before.before.before.before
+abbrev picked : tie.After-piece invariant-loop decreases-loop → tie.After-highest-k invariant-loop decreases-loop
+picked d = d.before.before.before.before.before.before.before.before.before
 
 abbrev place : tie.After-piece invariant-loop decreases-loop → ℕ
-place d = (picked d).highest.result
+place d = (picked d).highest-k.result
 
 abbrev word : tie.After-piece invariant-loop decreases-loop → ℕ
 word d = get_or (start (picked d)).args.words.now (place d) 0
 
 abbrev ways' : tie.After-piece invariant-loop decreases-loop → List ℕ
-ways' d = d.piece.new.1.1.1.1.1.0
+ways' d = d.piece.new.ways
 
-add-way : tie.Need-overflow-add-way invariant-loop decreases-loop
+add-way : tie.Need-overflow_add-way invariant-loop decreases-loop
 add-way c =
     let d = c.before in
-    omega (arith, d.piece.ensures.0.low (word_head (word d)), (start (picked d)).pre.0.low (place d))
+    omega (arith, d.piece.ensures.0.low (word_head (word d.before)), (start (picked d.before)).requires.0.low (place d.before))
 
 -- the tail of the belt of the turn, as the code has it
 abbrev tail : tie.After-piece invariant-loop decreases-loop → ℕ
-tail d = d.before.before.before.before.before.before.wide.result
+tail d = d.before.before.before.before.before.before.wide-tail.result
 
 tail_is : (d : tie.After-piece invariant-loop decreases-loop) → tail d ≡ tail_at (start (picked d)).args.numbers.now (place d)
-tail_is d = d.before.before.before.before.before.before.wide.ensures
+tail_is d = d.before.before.before.before.before.before.wide-tail.ensures
 
 from_s : (d : tie.After-piece invariant-loop decreases-loop) → (start (picked d)).args.s ≤ tail d
-from_s d = d.before.before.before.before.if1.false
+from_s d = d.before.before.before.before.if-tail-s.false
 
 up : (d : tie.After-piece invariant-loop decreases-loop) → tail d < word_head (word d)
-up d = omega (arith, d.before.before.before.if2.false)
+up d = omega (arith, d.before.before.before.if-low-tail.false)
 
-near : (d : tie.After-piece invariant-loop decreases-loop) → word_head (word d) ≤ (picked d).before.before.loop.nearest
-near d = d.before.before.if3.false
+near : (d : tie.After-piece invariant-loop decreases-loop) → word_head (word d) ≤ (picked d).before.before.loop-left.nearest
+near d = d.before.before.if-nearest-low.false
 
 to_t : (d : tie.After-piece invariant-loop decreases-loop) → tail d < (start (picked d)).args.t
-to_t d = omega (arith, up d, near d, (picked d).before.before.loop.invariant.1)
+to_t d = omega (arith, up d, near d, (picked d).before.before.loop-left.invariant.1)
 
 tail_low : (d : tie.After-piece invariant-loop decreases-loop) → tail d < max_junctions
-tail_low d = omega (arith, to_t d, (start (picked d)).pre.3)
+tail_low d = omega (arith, to_t d, (start (picked d)).requires.3)
 
 spared' : (d : tie.After-piece invariant-loop decreases-loop) → let a = (start (picked d)).args in Spared a.s a.t (ways' d)
 spared' d =
     let a = (start (picked d)).args in
-    let loop = (picked d).before.before.loop in
-    d.piece.ensures.1 a.s a.t (omega (arith, from_s d, up d)) loop.inv.1 loop.inv.4
+    let loop = (picked d).before.before.loop-left in
+    d.piece.ensures.1 a.s a.t (omega (arith, from_s d, up d)) loop.invariant.1 loop.invariant.4
 
 stands : (d : tie.After-piece invariant-loop decreases-loop) (b : List ℕ) (x : Subproblem) → Of (picked d) b x
-    → Stands b x (start (picked d)).args.t (word_head (word d)) (picked d).before.before.loop.nearest (ways' d)
+    → Stands b x (start (picked d)).args.t (word_head (word d)) (picked d).before.before.loop-left.nearest (ways' d)
 stands d b x q =
     let a = (start (picked d)).args in
-    let (low, high, under) = (picked d).highest.ensures in
+    let (low, high, under) = (picked d).highest-k.ensures in
     let (p, r) = turn_piece q (state (picked d) b x q) (place d) low high (near d) in
     d.piece.ensures.2 b x a.due a.t p r
 
-returns-4 : tie.Need-returns-4 invariant-loop decreases-loop
+returns-4 : tie.Need-returns-then-limit-way invariant-loop decreases-loop
 returns-4 c =
-    let d = c.before.before in
+    let d = c.before.before.before in
     let from = start (picked d) in
-    let (low, high, under) = (picked d).highest.ensures in (
+    let (low, high, under) = (picked d).highest-k.ensures in (
       spared' d,
       λ b x q. (
         sym (ap rest_of (turn_dear q (state (picked d) b x q) (place d) low high (near d) (stands d b x q) from.args.s (from.args.limit / link_limit)
-            (omega (arith, from_s d, tail_is d)) (omega (arith, from.pre.5)) (omega (arith, c.if4.true, from.pre.6)))),
+            (omega (arith, from_s d, tail_is d)) (omega (arith, from.requires.5)) (omega (arith, c.if-limit-way.true, from.requires.6)))),
         λ l. absurd (omega arith),
       ),
     )
 
-sub-ways : tie.Need-overflow-sub-ways invariant-loop decreases-loop
+sub-ways : tie.Need-overflow_sub-ways invariant-loop decreases-loop
 sub-ways c = search rules
 
-mul-ways : tie.Need-overflow-mul-ways invariant-loop decreases-loop
-mul-ways c = omega (arith, tail_low c.before.before)
+mul-ways : tie.Need-offset_bounds-ways-tail invariant-loop decreases-loop
+mul-ways c = omega (arith, tail_low c.before.before.before)
 
-element-write-ways : tie.Need-element-write-ways invariant-loop decreases-loop
-element-write-ways c = omega (arith, tail_low c.before.before)
+element-write-ways : tie.Need-bounds-ways-tail invariant-loop decreases-loop
+element-write-ways c = omega (arith, tail_low c.before.before.before)
 
-add-ways : tie.Need-overflow-add-ways invariant-loop decreases-loop
-add-ways c = omega (arith, tail_low c.before.before)
+add-ways : tie.Need-overflow_add-ways invariant-loop decreases-loop
+add-ways c = omega (arith, tail_low c.before.before.before)
 
-mul-ways-2 : tie.Need-overflow-mul-ways-2 invariant-loop decreases-loop
-mul-ways-2 c = omega (arith, tail_low c.before.before)
+mul-ways-2 : tie.Need-offset_bounds-ways-tail-in-loop-left invariant-loop decreases-loop
+mul-ways-2 c = omega (arith, tail_low c.before.before.before)
 
-element-write-ways-2 : tie.Need-element-write-ways-2 invariant-loop decreases-loop
-element-write-ways-2 c = omega (arith, tail_low c.before.before)
+element-write-ways-2 : tie.Need-bounds-ways-tail-in-loop-left invariant-loop decreases-loop
+element-write-ways-2 c = omega (arith, tail_low c.before.before.before)
 
-without-requires : tie.Need-without-requires invariant-loop decreases-loop
+without-requires : tie.Need-without-left-requires invariant-loop decreases-loop
 without-requires c κs = search rules
 
-loop-less : tie.Need-loop-smaller invariant-loop decreases-loop
+loop-less : tie.Need-loop-left-smaller invariant-loop decreases-loop
 loop-less c = search rules
 
-loop-again : tie.Need-loop-preserved invariant-loop decreases-loop
+loop-again : tie.Need-loop-left-preserved invariant-loop decreases-loop
 loop-again c =
-    let d = c.before.before.before in
+    let d = c.before.before.before.before in
     let from = start (picked d) in
     let a = from.args in
     let way = over_word (ways' d) (word d) in
-    let within : way < far = omega (arith, c.before.if4.false, from.pre.5) in
-    let (low, high, under) = (picked d).highest.ensures in
+    let within : way < far = omega (arith, c.before.if-limit-way.false, from.requires.5) in
+    let (low, high, under) = (picked d).highest-k.ensures in
     let room = d.piece.ensures.0 in (
       from_s d,
       omega (arith, to_t d),
-      omega (arith, c.without.ensures, (picked d).before.before.loop.invariant.2),
+      omega (arith, c.without-left.ensures, (picked d).before.before.loop-left.invariant.2),
       room_entered (ways' d) (tail d) way (omega arith) room,
       spared_entered (ways' d) (tail d) way (tail_low d) (from_s d) (to_t d) (spared' d),
       λ b x q.
           subst₂ (λ (m n : ℕ). Parted b x a.words.now a.numbers.now a.due a.t m n (entered (ways' d) n way))
-          (sym c.without.ensures) (sym (tail_is d))
+          (sym c.without-left.ensures) (sym (tail_is d))
           (turn_next q (state (picked d) b x q) (place d) low high (near d) (stands d b x q) room.size within),
     )
 
 piece-requires-2 : tie.Need-piece-requires-2 invariant-loop decreases-loop
 piece-requires-2 c κs =
     let from = c.before.before.before.before in
-    let loop = c.before.before.loop in
+    let loop = c.before.before.loop-left in
     (from.requires.0, loop.invariant.3, omega (arith, loop.invariant.1, from.requires.3))
 
-mul-cost : tie.Need-overflow-mul-cost invariant-loop decreases-loop
+mul-cost : tie.Need-offset_bounds-ways-s invariant-loop decreases-loop
 mul-cost c = search rules
 
-element-copy-out-cost : tie.Need-element-copy-out-cost invariant-loop decreases-loop
+element-copy-out-cost : tie.Need-bounds-ways-s invariant-loop decreases-loop
 element-copy-out-cost c = search rules
 
 -- ---- once the last piece is done
 
-abbrev began : tie.After-piece2 invariant-loop decreases-loop → tie.Start invariant-loop decreases-loop
+abbrev began : tie.After-piece-2 invariant-loop decreases-loop → tie.Start invariant-loop decreases-loop
 began d = d.before.before.before.before.before
 
-abbrev ways'' : tie.After-piece2 invariant-loop decreases-loop → List ℕ
-ways'' d = d.piece2.new.1.1.1.1.1.0
+abbrev ways'' : tie.After-piece-2 invariant-loop decreases-loop → List ℕ
+ways'' d = d.piece-2.new.ways
 
-spared'' : (d : tie.After-piece2 invariant-loop decreases-loop) → Spared (began d).args.s (began d).args.t (ways'' d)
+spared'' : (d : tie.After-piece-2 invariant-loop decreases-loop) → Spared (began d).args.s (began d).args.t (ways'' d)
 spared'' d =
     let a = (began d).args in
-    let loop = d.before.before.before.loop in
-    d.piece2.ensures.1 a.s a.t (omega arith) loop.invariant.1 loop.invariant.4
+    let loop = d.before.before.before.loop-left in
+    d.piece-2.ensures.1 a.s a.t (omega arith) loop.invariant.1 loop.invariant.4
 
 -- the way on from s is known, and is the relaxed route
-last : (d : tie.After-piece2 invariant-loop decreases-loop) (b : List ℕ) (x : Subproblem) → let a = (began d).args in
+last : (d : tie.After-piece-2 invariant-loop decreases-loop) (b : List ℕ) (x : Subproblem) → let a = (began d).args in
     Asked b x a.words.now a.numbers.now a.due a.forbidden a.t
     → Ready b x a.t (ways'' d) a.s × (way_on (plan_of b) x (suc a.t) (suc a.s) ≡ relaxed (plan_of b) (suc a.s) (suc a.t) x)
 last d b x q =
     let a = (began d).args in
-    let loop = d.before.before.before.loop in
-    let none_left = d.before.before.loop-test.false in
+    let loop = d.before.before.before.loop-left in
+    let none_left = d.before.before.loop-left-test.false in
     let w = loop.invariant.5 b x q in (
-      d.piece2.ensures.2 b x a.due a.t (last_piece q w none_left a.s) (last_ready q w none_left) a.s (omega arith) loop.invariant.0,
+      d.piece-2.ensures.2 b x a.due a.t (last_piece q w none_left a.s) (last_ready q w none_left) a.s (omega arith) loop.invariant.0,
       last_way q w none_left a.s loop.invariant.0,
     )
 
-returns-5 : tie.Need-returns-5 invariant-loop decreases-loop
+returns-5 : tie.Need-returns-then-limit-cost invariant-loop decreases-loop
 returns-5 c =
     let d = c.before.before in
-    let from = began d in
+    let from = began d.before in
     let a = from.args in
     let bound = a.limit / link_limit in (
-      spared'' d,
+      spared'' d.before,
       λ b x q.
-          let (ready, same) = last d b x q in (
+          let (ready, same) = last d.before b x q in (
             sym (ap rest_of (ap (at_most bound) (sym same) ∙ bound_dear bound (way_on (plan_of b) x (suc a.t) (suc a.s))
-                (subst (λ (n : ℕ). bound * link_limit + (link_limit - 1) < n) ready.price (omega (arith, c.if5.true, from.pre.6))))),
+                (subst (λ (n : ℕ). bound * link_limit + (link_limit - 1) < n) ready.price (omega (arith, c.if-limit-cost.true, from.requires.6))))),
             λ l. absurd (omega arith),
           ),
     )
 
-returns-6 : tie.Need-returns-6 invariant-loop decreases-loop
+returns-6 : tie.Need-returns invariant-loop decreases-loop
 returns-6 c =
     let d = c.before.before in
-    let from = began d in
+    let from = began d.before in
     let a = from.args in
     let bound = a.limit / link_limit in (
-      spared'' d,
+      spared'' d.before,
       λ b x q.
-          let (ready, same) = last d b x q in (
+          let (ready, same) = last d.before b x q in (
             ready.price
-                ∙ sym (ap rest_of (ap (at_most bound) (sym same) ∙ bound_within bound (way_on (plan_of b) x (suc a.t) (suc a.s)) (omega (arith, from.pre.5))
-                (subst (λ (n : ℕ). n ≤ bound * link_limit + (link_limit - 1)) ready.price (omega (arith, c.if5.false, from.pre.6))))),
+                ∙ sym (ap rest_of (ap (at_most bound) (sym same) ∙ bound_within bound (way_on (plan_of b) x (suc a.t) (suc a.s)) (omega (arith, from.requires.5))
+                (subst (λ (n : ℕ). n ≤ bound * link_limit + (link_limit - 1)) ready.price (omega (arith, c.if-limit-cost.false, from.requires.6))))),
             λ l r h. ready.trace r (same ∙ h),
           ),
     )
