@@ -32,7 +32,7 @@ use Rattle.plan.specs.Bounds.{max_sheet_bytes}
 use Rattle.plan.proofs.Lists.{test, never}
 use Rattle.plan.specs.Plan.{Belt, plan_of, indices_of}
 use Rattle.plan.specs.Reading.{Accepted, Bytes}
-use Rattle.route.specs.Routes.{cost, lower, before}
+use Rattle.route.specs.Routes.{cost, lower}
 use Rattle.route.specs.Lcsp.{Arc, Instance, weight_of, Feasible, Solves}
 use Rattle.route.specs.Instances.{arc_of, instance_of}
 use Rattle.route.specs.Permission.{Terms, terms_of, Permitted, IsPermitted}
@@ -48,7 +48,7 @@ use Rattle.route.proofs.RouteOrder.{first_gt}
 use Rattle.route.proofs.SheetSolutions.{numbers_indices, reads_written, written_claim}
 use Rattle.search.specs.Search.{Problem, Ending, found_route, found_none, budget_spent, Turn, setting_of, state_at}
 use Rattle.search.specs.Answers.{Request, trip_in, asked, search_refusal, Outcome, route, nothing, spent, or_zero, ending_of, ended_by, ended, problem_in, outcome, out_after}
-use Rattle.search.specs.Claims.{InLimits, Answered, EndsClaim, AcceptedClaim, Cheapest, opened_of, with_budget, IsSpent, Right, RightClaim, RunRight, Solved, SolvesClaim}
+use Rattle.search.specs.Claims.{InLimits, Answered, EndsClaim, AcceptedClaim, Cheapest, opened_of, with_budget, IsSpent, Right, RightClaim, RunRight, SolvesClaim}
 use Rattle.search.proofs.BranchChildren.{explores}
 use Rattle.search.proofs.RunCoverage.{any_choice_claim}
 use Rattle.search.proofs.AnswerRefusal.{query_trip, query_accepted, zero_query, limits_claim, apart, run_of, outcome_ended, ended_answered, route_unrefused}

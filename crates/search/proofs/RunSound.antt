@@ -13,25 +13,23 @@ use mathlib.Core.Path.{◌≡◌, refl, sym, ap, subst}
 use mathlib.Core.Logic.{◌⊎◌, inl, inr}
 use mathlib.Core.Bool.{Bool, true, false, not, ◌||◌}
 use mathlib.Core.Option.{Option, none, some}
-use Prim.Native.Nat.{ℕ, zero, suc, ◌≤◌, ◌<◌}
+use Prim.Native.Nat.{ℕ, zero, suc, ◌<◌}
 use mathlib.Core.List.Memᴰ
 use mathlib.Core.List.{List, [], ◌∷◌, ◌++◌, Memᴰ}
 use native.Mathlib.Omega.{arith}
-use lib.ListN.{length}
 use lib.Dec.{eqb}
 use borrow.Author.Tests.{not-true}
-use Rattle.plan.specs.Lists.{keep, mem}
+use Rattle.plan.specs.Lists.{mem}
 use Rattle.plan.specs.Plan.{Belt, Plan, plan_of, indices_of, named}
-use Rattle.plan.specs.Claims.{Unbroken}
 use Rattle.plan.specs.Reading.{Accepted}
 use Rattle.plan.proofs.Lists.{never, each, keep_in, in_mem}
 use Rattle.plan.proofs.ListRising.{Rises, none, more, keep_rises}
 use Rattle.plan.proofs.Reading.{belts_rise, named_few}
 use Rattle.route.specs.Subproblems.{Subproblem, relaxed}
-use Rattle.search.specs.Branching.{is_fixed, unfixed, adding, requiring, forbidding, children}
+use Rattle.search.specs.Branching.{is_fixed, unfixed, adding, children}
 use Rattle.search.specs.Search.{Problem, State, free, begun, branched, tested, setting_of, compared, improves, considered, taken_off, take_at, open_next, state_at, runs}
-use Rattle.search.specs.Answers.{Asked, trip_in, query_lines, problem_in}
-use Rattle.search.specs.Claims.{Explores, NoneTwice, FixesNamed, FixesClaim, Sound, SoundClaim}
+use Rattle.search.specs.Answers.{problem_in}
+use Rattle.search.specs.Claims.{Explores, NoneTwice, FixesNamed, FixesClaim, SoundClaim}
 use Rattle.search.proofs.BranchChildren.{of_both, of_adding, explores}
 use Rattle.search.proofs.RunSteps.{along, within_claim}
 use Rattle.search.proofs.RunCoverage.{best_claim}

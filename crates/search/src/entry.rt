@@ -29,7 +29,7 @@ const SMALL_PLAN: usize = 256;
 const SMALL_PLAN_BYTES: usize = RECORD_BYTES * SMALL_PLAN;
 
 // What the planner answers.
-#[derive(Drop)]
+#[derive(Clone, Copy)]
 pub enum Answer {
     // A route: how many subproblems were opened, and the length of its sheet, which stands at the start of the out buffer.
     Found(u64, usize),
@@ -45,7 +45,7 @@ pub enum Answer {
 
 // An answer in numbers: 0 for a route, 100 for none, 101 for spent, or the number of the broken line; how many subproblems were opened; and the
 // length of the sheet. What an answer does not have is 0.
-#[derive(Drop)]
+#[derive(Clone, Copy)]
 pub struct Reply {
     pub number: u8,
     pub opened: u64,

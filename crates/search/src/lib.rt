@@ -7,6 +7,8 @@
 //   state   the search between two steps, and one step of it
 //   run     the search from its beginning to its ending
 //   entry   the planner's answer to a query, for any bytes and any numbers
+#![tactic(auto)]
+
 mod counts;
 pub mod entry;
 mod pick;

@@ -5,7 +5,7 @@ ghost use Rattle.search.specs.Answers.{wrong_query};
 use route::path::Trip;
 
 // A query: the trip, which belt is picked (0 to 2), which child is taken next (0 or 1), and how many subproblems may be opened.
-#[derive(Drop)]
+#[derive(Clone, Copy)]
 pub struct Query {
     pub trip: Trip,
     pub pick: u64,

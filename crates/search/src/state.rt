@@ -27,7 +27,7 @@ pub const MAX_WAITING: usize = MAX_NAMED + 1;
 // A search: the subproblems that wait are the first `count` of the array, the newest last; how many have been opened; the best route so far, and what
 // it costs, or relax::UNBOUNDED where none is found. What is not in use is 0. The struct is passed by value: each field is 8 bytes wide, or an array,
 // because narrower ones are slow to copy.
-#[derive(Drop)]
+#[derive(Clone, Copy)]
 pub struct Search {
     pub waiting: [Fixings; MAX_WAITING],
     pub count: usize,
@@ -37,7 +37,7 @@ pub struct Search {
 }
 
 // How a search stands after a step.
-#[derive(Drop)]
+#[derive(Clone, Copy)]
 pub enum Ending {
     // It has not ended.
     GoesOn,
@@ -50,14 +50,14 @@ pub enum Ending {
 }
 
 // What a step hands back.
-#[derive(Drop)]
+#[derive(Clone, Copy)]
 pub struct Stepped {
     pub search: Search,
     pub ending: Ending,
 }
 
 // What becomes of a subproblem that was taken.
-#[derive(Drop)]
+#[derive(Clone, Copy)]
 enum Judged {
     // It is dropped.
     Drop,

@@ -11,56 +11,56 @@ use Rattle.search.proofs.BranchCounts.{Tallied, tallied_start, tallied_few, tall
 use Rattle.search.proofs.counts.rule_counts.Statement.{statement}
 use Rattle.search.proofs.counts.rule_counts.Tie as tie
 
-abbrev invariant-loop : tie.invariant-loop
+abbrev invariant-loop : tie.invariant-loop-rule
 invariant-loop p places count rules₀ rule₀ rules rule = Tallied p rule.0 rules
 
-abbrev decreases-loop : tie.decreases-loop
+abbrev decreases-loop : tie.decreases-loop-rule
 decreases-loop p places count rules₀ rule₀ rules rule = length (rules_from p rule.0)
 
-first-rule-requires : tie.Need-first-rule-requires invariant-loop decreases-loop
+first-rule-requires : tie.Need-first_rule-rule-requires invariant-loop decreases-loop
 first-rule-requires c κs = c.before.requires.0
 
-loop-holds : tie.Need-loop-init invariant-loop decreases-loop
-loop-holds c = tallied_start c.before.before.requires.0 c.first_rule.result.0 c.first_rule.ensures
+loop-holds : tie.Need-loop-rule-init invariant-loop decreases-loop
+loop-holds c = tallied_start c.before.before.requires.0 c.first_rule-rule.result.0 c.first_rule-rule.ensures
 
-in-rule-requires : tie.Need-in-rule-requires invariant-loop decreases-loop
+in-rule-requires : tie.Need-in_rule-requires invariant-loop decreases-loop
 in-rule-requires c κs =
     let at = c.before.before in
     let pre = at.before.before.before.requires in
-    (pre.0, pre.1, at.loop.invariant.is_rule c.if1.true)
+    (pre.0, pre.1, at.loop-rule.invariant.is_rule c.loop-rule-test.true)
 
-with-rule-requires : tie.Need-with-rule-requires invariant-loop decreases-loop
+with-rule-requires : tie.Need-with_rule-sums-requires invariant-loop decreases-loop
 with-rule-requires c κs =
     let at = c.before.before.before in
     let pre = at.before.before.before.requires in
-    (omega (arith, pre.2, named_few pre.0), tallied_few pre.0 at.loop.invariant)
+    (omega (arith, pre.2, named_few pre.0), tallied_few pre.0 at.loop-rule.invariant)
 
-next-rule-requires : tie.Need-next-rule-requires invariant-loop decreases-loop
+next-rule-requires : tie.Need-next_rule-rule-requires invariant-loop decreases-loop
 next-rule-requires c κs =
     let turn = c.before.before in
     let at = turn.before.before in
-    (at.before.before.before.requires.0, at.loop.invariant.is_rule turn.if1.true)
+    (at.before.before.before.requires.0, at.loop-rule.invariant.is_rule turn.loop-rule-test.true)
 
-loop-less : tie.Need-loop-smaller invariant-loop decreases-loop
+loop-less : tie.Need-loop-rule-smaller invariant-loop decreases-loop
 loop-less c =
     let turn = c.before.before.before in
     let at = turn.before.before in
-    tallied_shorter at.before.before.before.requires.0 at.loop.invariant turn.if1.true _ c.next_rule.ensures
+    tallied_shorter at.before.before.before.requires.0 at.loop-rule.invariant turn.loop-rule-test.true _ c.next_rule-rule.ensures
 
-loop-again : tie.Need-loop-preserved invariant-loop decreases-loop
+loop-again : tie.Need-loop-rule-preserved invariant-loop decreases-loop
 loop-again c =
     let turn = c.before.before.before in
     let at = turn.before.before in
     let pre = at.before.before.before.requires in
-    let mask = c.before.before.in-rule in
-    let sums = c.before.with-rule.ensures ∙ ap (λ (n : ℕ). with_rule at.loop.rules n mask.result) pre.2 in
-    tallied_next pre.0 at.loop.invariant turn.if1.true pre.1 mask.result mask.ensures _ sums _ c.next_rule.ensures
+    let mask = c.before.before.in_rule in
+    let sums = c.before.with_rule-sums.ensures ∙ ap (λ (n : ℕ). with_rule at.loop-rule.rules n mask.result) pre.2 in
+    tallied_next pre.0 at.loop-rule.invariant turn.loop-rule-test.true pre.1 mask.result mask.ensures _ sums _ c.next_rule-rule.ensures
 
 returns : tie.Need-returns invariant-loop decreases-loop
 returns c =
     let at = c.before.before in
     let pre = at.before.before.before.requires in
-    tallied_end pre.0 at.loop.invariant c.if1.false
+    tallied_end pre.0 at.loop-rule.invariant c.loop-rule-test.false
 
 pub rule_counts_spec : {M : Type 1} → statement M
 rule_counts_spec =

@@ -44,120 +44,120 @@ module _ (xs : List ℕ) (m k n : ℕ) (some : k ≡ 0 → ⊥) (l : k ≤ n) wh
   top_rest : outside m (k - 1) ≡ false → top xs m (k - 1) n ≡ top xs m k n
   top_rest h = ap (highest (count_at xs)) (keep_rest (outside m) (k - 1) n (omega (arith, some)) h ∙ ap (λ (j : ℕ). keep (outside m) (upto j n)) back)
 
-abbrev invariant-loop : tie.invariant-loop
+abbrev invariant-loop : tie.invariant-loop-k
 invariant-loop numbers fixed found₀ best₀ most₀ k₀ found best most k =
     (k ≤ named_at numbers) × Tops numbers (top numbers fixed k (named_at numbers)) found best most
 
-abbrev decreases-loop : tie.decreases-loop
+abbrev decreases-loop : tie.decreases-loop-k
 decreases-loop numbers fixed found₀ best₀ most₀ k₀ found best most k = k
 
-named_in_requires : tie.Need-named-in-requires invariant-loop decreases-loop
+named_in_requires : tie.Need-named_in-k-requires invariant-loop decreases-loop
 named_in_requires c κs = search rules
 
-loop-holds : tie.Need-loop-init invariant-loop decreases-loop
+loop-holds : tie.Need-loop-k-init invariant-loop decreases-loop
 loop-holds c =
     let a = c.before.before.args in
     let xs = a.numbers.now in
     let n = named_at xs in
-    let all = c.named_in.ensures in
-    let none : top xs (fixed a.fixings) c.named_in.result n ≡ highest (count_at xs) [] =
-    ap (highest (count_at xs)) (keep_done (outside (fixed a.fixings)) c.named_in.result n (omega arith)) in
+    let all = c.named_in-k.ensures in
+    let none : top xs (fixed a.fixings) c.named_in-k.result n ≡ highest (count_at xs) [] =
+    ap (highest (count_at xs)) (keep_done (outside (fixed a.fixings)) c.named_in-k.result n (omega arith)) in
     (omega arith, subst (λ (o : Option ℕ). Tops xs o false 0 0) (sym none) (refl, refl))
 
-sub-k : tie.Need-overflow-sub-k invariant-loop decreases-loop
+sub-k : tie.Need-overflow_sub-k invariant-loop decreases-loop
 sub-k c = search rules
 
 -- the place of a turn is one of 48
-below : (c : tie.In-loop invariant-loop decreases-loop) → c.before.loop.k - 1 < max_named
-below c = omega (arith, c.loop-test.true, c.before.loop.invariant.0, c.before.before.before.before.requires)
+below : (c : tie.In-loop-k invariant-loop decreases-loop) → c.before.loop-k.k - 1 < max_named
+below c = omega (arith, c.loop-k-test.true, c.before.loop-k.invariant.0, c.before.before.before.before.requires)
 
 has-requires : tie.Need-has-requires invariant-loop decreases-loop
 has-requires c κs = omega (arith, below c)
 
-add-rules : tie.Need-overflow-add-rules invariant-loop decreases-loop
+add-rules : tie.Need-overflow_add-rules invariant-loop decreases-loop
 add-rules c = record { fits = omega (arith, below c.before.before) }
 
-mul-rules : tie.Need-overflow-mul-rules invariant-loop decreases-loop
+mul-rules : tie.Need-offset_bounds-numbers-k invariant-loop decreases-loop
 mul-rules c = omega (arith, below c.before.before)
 
-element-copy-out-rules : tie.Need-element-copy-out-rules invariant-loop decreases-loop
-element-copy-out-rules c = omega (arith, below c.before.before)
+element-copy-out-rules : tie.Need-bounds-numbers-k invariant-loop decreases-loop
+element-copy-out-rules c = omega (arith, below c.before.before.before)
 
 -- an unfixed place is looked at first
-first : (c : tie.After-rules invariant-loop decreases-loop) → let at = c.before.before.before.before in let a = at.before.before.before.args in let k = at.loop.k in
+first : (c : tie.After-rules-1 invariant-loop decreases-loop) → let at = c.before.before.before.before in let a = at.before.before.before.args in let k = at.loop-k.k in
     top a.numbers.now (fixed a.fixings) (k - 1) (named_at a.numbers.now) ≡ higher (count_at a.numbers.now) (k - 1) (top a.numbers.now (fixed a.fixings) k (named_at a.numbers.now))
 first c =
     let has = c.before.before in
     let turn = has.before in
     let at = turn.before in
     let a = at.before.before.before.args in
-    top_first a.numbers.now (fixed a.fixings) at.loop.k (named_at a.numbers.now) turn.loop-test.true at.loop.invariant.0
-    (sym (ap not has.has.ensures) ∙ c.before.if1.true)
+    top_first a.numbers.now (fixed a.fixings) at.loop-k.k (named_at a.numbers.now) turn.loop-k-test.true at.loop-k.invariant.0
+    (ap not (sym c.has.ensures ∙ c.if-not-has.true))
 
-loop-less : tie.Need-loop-smaller invariant-loop decreases-loop
+loop-less : tie.Need-loop-k-smaller-then-most-rules invariant-loop decreases-loop
 loop-less c = search rules
 
-loop-again : tie.Need-loop-preserved invariant-loop decreases-loop
+loop-again : tie.Need-loop-k-preserved-then-most-rules invariant-loop decreases-loop
 loop-again c =
     let at = c.before.before.before.before.before in
-    let loop = at.loop in
+    let loop = at.loop-k in
     let a = at.before.before.before.args in
     let xs = a.numbers.now in (
       omega (arith, loop.invariant.0),
       subst (λ (o : Option ℕ). Tops xs o true (loop.k - 1) (count_at xs (loop.k - 1))) (sym (first c.before))
-          (tops_taken xs (top xs (fixed a.fixings) loop.k (named_at a.numbers.now)) loop.found loop.best loop.most (loop.k - 1) loop.invariant.1 c.if2.true),
+          (tops_taken xs (top xs (fixed a.fixings) loop.k (named_at a.numbers.now)) loop.found loop.best loop.most (loop.k - 1) loop.invariant.1 c.if-most-rules.true),
     )
 
-loop-less-2 : tie.Need-loop-smaller-2 invariant-loop decreases-loop
+loop-less-2 : tie.Need-loop-k-smaller-else-most-rules invariant-loop decreases-loop
 loop-less-2 c = search rules
 
-loop-again-2 : tie.Need-loop-preserved-2 invariant-loop decreases-loop
+loop-again-2 : tie.Need-loop-k-preserved-else-most-rules invariant-loop decreases-loop
 loop-again-2 c =
     let at = c.before.before.before.before.before in
-    let loop = at.loop in
+    let loop = at.loop-k in
     let a = at.before.before.before.args in
     let xs = a.numbers.now in (
       omega (arith, loop.invariant.0),
       subst (λ (o : Option ℕ). Tops xs o loop.found loop.best loop.most) (sym (first c.before))
-          (tops_kept xs (top xs (fixed a.fixings) loop.k (named_at a.numbers.now)) loop.found loop.best loop.most (loop.k - 1) loop.invariant.1 c.if2.false),
+          (tops_kept xs (top xs (fixed a.fixings) loop.k (named_at a.numbers.now)) loop.found loop.best loop.most (loop.k - 1) loop.invariant.1 c.if-most-rules.false),
     )
 
-loop-less-3 : tie.Need-loop-smaller-3 invariant-loop decreases-loop
+loop-less-3 : tie.Need-loop-k-smaller invariant-loop decreases-loop
 loop-less-3 c = search rules
 
-loop-again-3 : tie.Need-loop-preserved-3 invariant-loop decreases-loop
+loop-again-3 : tie.Need-loop-k-preserved invariant-loop decreases-loop
 loop-again-3 c =
     let turn = c.before.before in
     let at = turn.before in
     let a = at.before.before.before.args in
     let xs = a.numbers.now in
-    let rest = top_rest xs (fixed a.fixings) at.loop.k (named_at a.numbers.now) turn.loop-test.true at.loop.invariant.0 (sym (ap not c.before.has.ensures) ∙ c.if1.false) in
-    (omega (arith, at.loop.invariant.0), subst (λ (o : Option ℕ). Tops xs o at.loop.found at.loop.best at.loop.most) (sym rest) at.loop.invariant.1)
+    let rest = top_rest xs (fixed a.fixings) at.loop-k.k (named_at a.numbers.now) turn.loop-k-test.true at.loop-k.invariant.0 (ap not (sym c.has.ensures ∙ c.if-not-has.false)) in
+    (omega (arith, at.loop-k.invariant.0), subst (λ (o : Option ℕ). Tops xs o at.loop-k.found at.loop-k.best at.loop-k.most) (sym rest) at.loop-k.invariant.1)
 
 -- all places are gone through
-whole : (c : tie.After-loop invariant-loop decreases-loop) → let a = c.before.before.before.before.args in
-    Tops a.numbers.now (highest (count_at a.numbers.now) (unfixed_places a.fixings (named_at a.numbers.now))) c.before.loop.found c.before.loop.best c.before.loop.most
+whole : (c : tie.After-loop-k invariant-loop decreases-loop) → let a = c.before.before.before.before.args in
+    Tops a.numbers.now (highest (count_at a.numbers.now) (unfixed_places a.fixings (named_at a.numbers.now))) c.before.loop-k.found c.before.loop-k.best c.before.loop-k.most
 whole c =
-    let loop = c.before.loop in
+    let loop = c.before.loop-k in
     let a = c.before.before.before.before.args in
     let f = a.fixings in
     let all : top a.numbers.now (fixed f) loop.k (named_at a.numbers.now) ≡ highest (count_at a.numbers.now) (unfixed_places f (named_at a.numbers.now)) =
-    λ i. highest (count_at a.numbers.now) (keep (λ (j : ℕ). not (or_set f.required f.forbidden j i)) (upto (c.loop-test.false i) (named_at a.numbers.now))) in
+    λ i. highest (count_at a.numbers.now) (keep (λ (j : ℕ). not (or_set f.required f.forbidden j i)) (upto (c.loop-k-test.false i) (named_at a.numbers.now))) in
     subst (λ (o : Option ℕ). Tops a.numbers.now o loop.found loop.best loop.most) all loop.invariant.1
 
-returns : tie.Need-returns invariant-loop decreases-loop
+returns : tie.Need-returns-then-found invariant-loop decreases-loop
 returns c =
-    let loop = c.before.before.loop in
+    let loop = c.before.before.loop-k in
     let a = c.before.before.before.before.before.args in
     tops_found a.numbers.now (highest (count_at a.numbers.now) (unfixed_places a.fixings (named_at a.numbers.now))) loop.found loop.best loop.most
-    (whole c.before) c.if3.true
+    (whole c.before) c.if-found.true
 
-returns-2 : tie.Need-returns-2 invariant-loop decreases-loop
+returns-2 : tie.Need-returns invariant-loop decreases-loop
 returns-2 c =
-    let loop = c.before.before.loop in
+    let loop = c.before.before.loop-k in
     let a = c.before.before.before.before.before.args in
     tops_none a.numbers.now (highest (count_at a.numbers.now) (unfixed_places a.fixings (named_at a.numbers.now))) loop.found loop.best loop.most
-    (whole c.before) c.if3.false
+    (whole c.before) c.if-found.false
 
 pub busiest_spec : {M : Type 1} → statement M
 busiest_spec =

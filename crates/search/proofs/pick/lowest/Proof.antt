@@ -14,7 +14,7 @@ use Rattle.search.proofs.BranchPicks.{find_all}
 use Rattle.search.proofs.pick.lowest.Statement.{statement}
 use Rattle.search.proofs.pick.lowest.Tie as tie
 
-lowest-in-requires : tie.Need-lowest-in-requires
+lowest-in-requires : tie.Need-lowest_in-requires
 lowest-in-requires c κs = search rules
 
 returns : tie.Need-returns
@@ -22,7 +22,7 @@ returns c =
     let start = c.before in
     let a = start.args in
     let on : ℕ → Bool = λ k. in_mask 18446744073709551615 (At k) in
-    c.lowest-in.ensures
+    c.lowest_in.ensures
     ∙ ap at_place (find_all on (unfixed_places a.fixings a.count) (λ k m.
     let (i, free) = keep_in (unfixed_at a.fixings) (upto 0 a.count) m in
     ones_set 64 k (omega (arith, (upto_in 0 a.count k i).1, start.requires))))

@@ -17,24 +17,24 @@ use Rattle.search.proofs.pick.lowest_in.Tie as tie
 abbrev free : Fixings → ℕ → ℕ
 free f m = bit_xor (bit_or m (bit_or f.required f.forbidden)) (bit_or f.required f.forbidden)
 
-cast-k : tie.Need-overflow-cast-k
+cast-k : tie.Need-overflow_cast-k
 cast-k c = let a = c.before.args in record { fits = omega (arith, trailing_le 64 (free a.fixings a.mask)) }
 
-returns : tie.Need-returns
+returns : tie.Need-returns-then-k-count
 returns c =
     let start = c.before.before in
     let a = start.args in
     let on : ℕ → Bool = λ k. in_mask a.mask (At k) in
     ap at_place (sym (lowest_here (unfixed_at a.fixings) on a.count 64 (free a.fixings a.mask) (omega (arith, start.requires))
-    (free_bits a.fixings a.mask) c.if1.true))
+    (free_bits a.fixings a.mask) c.if-k-count.true))
 
-returns-2 : tie.Need-returns-2
+returns-2 : tie.Need-returns
 returns-2 c =
     let start = c.before.before in
     let a = start.args in
     let on : ℕ → Bool = λ k. in_mask a.mask (At k) in
     ap at_place (sym (lowest_over (unfixed_at a.fixings) on a.count 64 (free a.fixings a.mask) (omega (arith, start.requires))
-    (free_bits a.fixings a.mask) c.if1.false))
+    (free_bits a.fixings a.mask) c.if-k-count.false))
 
 pub lowest_in_spec : {M : Type 1} → statement M
 lowest_in_spec = tie.close (tie.spec cast-k returns returns-2)

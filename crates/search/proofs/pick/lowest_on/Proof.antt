@@ -12,35 +12,33 @@ use Rattle.search.proofs.BranchPicks.{else_at, else_none}
 use Rattle.search.proofs.pick.lowest_on.Statement.{statement}
 use Rattle.search.proofs.pick.lowest_on.Tie as tie
 
-lowest-in-requires : tie.Need-lowest-in-requires
+lowest-in-requires : tie.Need-lowest_in-on-requires
 lowest-in-requires c κs = search rules
 
-enum-known-on : tie.Need-enum-known-on
+enum-known-on : tie.Need-enum_known-on
 enum-known-on c = search rules
 
-enum_told : tie.Need-enum-told
+enum_told : tie.Need-enum_told-1
 enum_told c = search rules
 
 lowest-requires : tie.Need-lowest-requires
 lowest-requires c κs = search rules
 
 -- the unfixed belt that was looked for in the mask
-abbrev on : tie.After-lowest-in → Option ℕ
+abbrev on : tie.After-lowest_in-on → Option ℕ
 on c =
     let a = c.before.args in
     find (λ (k : ℕ). in_mask a.mask (At k)) (unfixed_places a.fixings a.count)
 
-returns : tie.Need-returns
+returns : tie.Need-returns-in-At
 returns c =
-    let looked = c.before.before.before in
-    let a = looked.before.args in
-    else_at (on looked) (head? (unfixed_places a.fixings a.count)) c.before.on.given.0.0 (sym looked.lowest-in.ensures ∙ c.before.on.given.1)
+    let a = c.args in
+    else_at (on c.before) (head? (unfixed_places a.fixings a.count)) c.in-At.k (sym c.lowest_in-on.ensures ∙ c.in-At.is)
 
-returns-2 : tie.Need-returns-2
+returns-2 : tie.Need-returns-in-Unnamed
 returns-2 c =
-    let looked = c.before.before.before in
-    let a = looked.before.args in
-    c.lowest.ensures ∙ else_none (on looked) (head? (unfixed_places a.fixings a.count)) (sym looked.lowest-in.ensures ∙ c.before.enum_told.given.1)
+    let a = c.args in
+    c.lowest.ensures ∙ else_none (on c.before.before) (head? (unfixed_places a.fixings a.count)) (sym c.lowest_in-on.ensures ∙ c.in-Unnamed.is)
 
 pub lowest_on_spec : {M : Type 1} → statement M
 lowest_on_spec =

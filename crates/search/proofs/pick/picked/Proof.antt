@@ -29,46 +29,46 @@ size ok e = ap named_at e ∙ numbers_named ok
 few : (c : tie.Start) → named_at c.args.numbers.now ≤ max_named
 few c = omega (arith, size c.requires.1 c.requires.2, named_few c.requires.1)
 
-named_in_requires : tie.Need-named-in-requires
+named_in_requires : tie.Need-named_in-requires
 named_in_requires c κs = search rules
 
 lowest-requires : tie.Need-lowest-requires
 lowest-requires c κs = subst (λ (n : ℕ). n ≤ max_named) (sym c.named_in.ensures) (few c.before.before)
 
-returns : tie.Need-returns
+returns : tie.Need-returns-then-pick-eq0
 returns c =
     let a = c.before.before.before.args in
     λ b ok numbers.
     c.lowest.ensures
     ∙ ap (λ (n : ℕ). at_place (head? (unfixed_places a.fixings n))) (c.before.named_in.ensures ∙ size ok numbers)
-    ∙ picks_lowest b a.fixings (has_belt b a.mask) a.pick c.before.before.if1.true
+    ∙ picks_lowest b a.fixings (has_belt b a.mask) a.pick c.before.before.if-pick-eq0.true
 
 busiest-requires : tie.Need-busiest-requires
 busiest-requires c κs = few c.before.before
 
-returns-2 : tie.Need-returns-2
+returns-2 : tie.Need-returns-then-pick-eq1
 returns-2 c =
     let a = c.before.before.before.args in
     λ b ok numbers.
     c.busiest.ensures
     ∙ (λ i. at_place (highest (count_at (numbers i)) (unfixed_places a.fixings (named_at (numbers i)))))
     ∙ ap (λ (n : ℕ). at_place (highest (count_at (numbers_of (plan_of b))) (unfixed_places a.fixings n))) (numbers_named ok)
-    ∙ picks_busiest b a.fixings (has_belt b a.mask) ok a.pick c.before.if2.true
+    ∙ picks_busiest b a.fixings (has_belt b a.mask) ok a.pick c.before.if-pick-eq1.true
 
-named-in-requires-2 : tie.Need-named-in-requires-2
+named-in-requires-2 : tie.Need-named_in-requires-2
 named-in-requires-2 c κs = search rules
 
-lowest-on-requires : tie.Need-lowest-on-requires
-lowest-on-requires c κs = subst (λ (n : ℕ). n ≤ max_named) (sym c.named-in2.ensures) (few c.before.before.before)
+lowest-on-requires : tie.Need-lowest_on-requires
+lowest-on-requires c κs = subst (λ (n : ℕ). n ≤ max_named) (sym c.named_in-2.ensures) (few c.before.before.before)
 
-returns-3 : tie.Need-returns-3
+returns-3 : tie.Need-returns
 returns-3 c =
     let a = c.before.before.before.before.args in
     let has : ℕ → Bool = λ k. in_mask a.mask (At k) in
     λ b ok numbers.
-    c.lowest-on.ensures
-    ∙ ap (λ (n : ℕ). at_place (otherwise (find has (unfixed_places a.fixings n)) (head? (unfixed_places a.fixings n)))) (c.before.named-in2.ensures ∙ size ok numbers)
-    ∙ picks_on b a.fixings (has_belt b a.mask) a.pick c.before.before.before.if1.false c.before.before.if2.false has
+    c.lowest_on.ensures
+    ∙ ap (λ (n : ℕ). at_place (otherwise (find has (unfixed_places a.fixings n)) (head? (unfixed_places a.fixings n)))) (c.before.named_in-2.ensures ∙ size ok numbers)
+    ∙ picks_on b a.fixings (has_belt b a.mask) a.pick c.before.before.before.if-pick-eq0.false c.before.before.if-pick-eq1.false has
     (mask_at b a.fixings a.mask)
 
 pub picked_spec : {M : Type 1} → statement M

@@ -13,17 +13,17 @@ no_budget : (n : ℕ) → eqb n 0 ≡ not (leb 1 n)
 no_budget zero = refl
 no_budget (suc n) = ne_eqb (suc n) 0 (λ e. omega arith) ∙ sym (ap not (le-leb 1 (suc n) (omega arith)))
 
-returns : tie.Need-returns
-returns c = simp (lt-leb _ 2 c.if1.true)
+returns : tie.Need-returns-then-query-gt2
+returns c = simp (lt-leb _ 2 c.if-query-gt2.true)
 
-returns-2 : tie.Need-returns-2
-returns-2 c = simp (le-leb _ 2 c.before.before.if1.false, lt-leb _ 1 c.if2.true)
+returns-2 : tie.Need-returns-then-query-gt1
+returns-2 c = simp (le-leb _ 2 c.before.before.if-query-gt2.false, lt-leb _ 1 c.if-query-gt1.true)
 
-returns-3 : tie.Need-returns-3
+returns-3 : tie.Need-returns
 returns-3 c =
     let q = c.before.before.before.before.before.args.query in
-    let pick = le-leb q.pick 2 c.before.before.before.if1.false in
-    let order = le-leb q.order 1 c.before.if2.false in
+    let pick = le-leb q.pick 2 c.before.before.before.if-query-gt2.false in
+    let order = le-leb q.order 1 c.before.if-query-gt1.false in
     no_budget q.budget ∙ sym (λ i. not (pick i && order i && leb 1 q.budget))
 
 pub wrong_query_spec : {M : Type 1} → statement M

@@ -7,11 +7,11 @@ use Rattle.route.specs.Values.{packed, unbounded}
 use Rattle.search.proofs.state.begin.Statement.{statement}
 use Rattle.search.proofs.state.begin.Tie as tie
 
-free-requires : tie.Need-free-requires
+free-requires : tie.Need-free-none-requires
 free-requires c κs = search rules
 
 returns : tie.Need-returns
-returns c = λ i. record { waiting = replicate max_waiting (c.free.ensures i); count = 1; opened = 0; best = packed []; bound = unbounded }
+returns c = λ i. record { waiting = replicate max_waiting (c.free-none.ensures i); count = 1; opened = 0; best = packed []; bound = unbounded }
 
 pub begin_spec : {M : Type 1} → statement M
 begin_spec = tie.close (tie.spec free-requires returns)

@@ -9,20 +9,20 @@ use Rattle.search.proofs.state.child.Tie as tie
 with-requires : tie.Need-with-requires
 with-requires c κs = search rules
 
-returns : tie.Need-returns
+returns : tie.Need-returns-then-required
 returns c =
     let a = c.before.before.args in
     (λ i. record { required = c.with.ensures i; forbidden = a.fixings.forbidden })
-    ∙ sym (ap (child_at a.fixings (At a.k)) c.before.if1.true)
+    ∙ sym (ap (child_at a.fixings (At a.k)) c.before.if-required.true)
 
 with-requires-2 : tie.Need-with-requires-2
 with-requires-2 c κs = search rules
 
-returns-2 : tie.Need-returns-2
+returns-2 : tie.Need-returns
 returns-2 c =
     let a = c.before.before.args in
-    (λ i. record { required = a.fixings.required; forbidden = c.with2.ensures i })
-    ∙ sym (ap (child_at a.fixings (At a.k)) c.before.if1.false)
+    (λ i. record { required = a.fixings.required; forbidden = c.with-2.ensures i })
+    ∙ sym (ap (child_at a.fixings (At a.k)) c.before.if-required.false)
 
 pub child_spec : {M : Type 1} → statement M
 child_spec = tie.close (tie.spec with-requires returns with-requires-2 returns-2)
