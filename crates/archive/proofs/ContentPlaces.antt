@@ -25,7 +25,7 @@ use mathlib.Core.Logic.{◌⊎◌, inl, inr}
 use mathlib.Core.Bool.{Bool, true, false, ◌||◌}
 use Prim.Native.Nat.{ℕ, zero, suc, ◌+◌, ◌≤◌, ◌<◌}
 use mathlib.Core.List.Memᴰ
-use mathlib.Core.List.{List, [], ◌∷◌, map, map_map, Memᴰ}
+use mathlib.Core.List.{List, [], ◌∷◌, map, map-map, Memᴰ}
 use native.Mathlib.Omega.{arith}
 use lib.ListN.{length, get_or, length-map}
 use lib.Dec.{eqb}
@@ -139,9 +139,9 @@ literal_fixed f (OfMode m wanted) h = refl
 
 pub renamed_twice : (f g : ℕ → ℕ) (rules : List (List Literal)) → renamed_rules f (renamed_rules g rules) ≡ renamed_rules (λ (e : ℕ). f (g e)) rules
 renamed_twice f g rules =
-    map_map (map (renamed_literal f)) (map (renamed_literal g)) rules
+    map-map (map (renamed_literal f)) (map (renamed_literal g)) rules
     ∙ map_same (λ (rule : List Literal). map (renamed_literal f) (map (renamed_literal g) rule)) (map (renamed_literal (λ (e : ℕ). f (g e)))) rules (λ rule m.
-    map_map (renamed_literal f) (renamed_literal g) rule
+    map-map (renamed_literal f) (renamed_literal g) rule
     ∙ map_same (λ (l : Literal). renamed_literal f (renamed_literal g l)) (renamed_literal (λ (e : ℕ). f (g e))) rule (λ l k. literal_twice f g l))
 
 pub renamed_fixed : (f : ℕ → ℕ) (rules : List (List Literal)) → RulesName (λ (e : ℕ). f e ≡ e) rules → renamed_rules f rules ≡ rules
@@ -343,7 +343,7 @@ module _ (f : ℕ → ℕ) (p : Plan) (one : (d e : ℕ) → Memᴰ d (indices_o
       ∙ ap (map f) (keep_cong (λ (e : ℕ). any (in_rule (f e)) (renamed_rules f p.rules)) (λ (e : ℕ). any (in_rule e) p.rules) (indices_of p.belts) same)
     where
       indices : indices_of (map (renamed_belt f) p.belts) ≡ map f (indices_of p.belts)
-      indices = map_map (λ (e : Belt). e.index) (renamed_belt f) p.belts ∙ sym (map_map f (λ (e : Belt). e.index) p.belts)
+      indices = map-map (λ (e : Belt). e.index) (renamed_belt f) p.belts ∙ sym (map-map f (λ (e : Belt). e.index) p.belts)
 
       same : (e : ℕ) → Memᴰ e (indices_of p.belts) → any (in_rule (f e)) (renamed_rules f p.rules) ≡ any (in_rule e) p.rules
       same e m =

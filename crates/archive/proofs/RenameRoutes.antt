@@ -27,7 +27,7 @@ use mathlib.Core.Logic.{◌⊎◌, inl, inr}
 use mathlib.Core.Bool.{Bool, true, false, not, ◌&&◌, ◌||◌}
 use mathlib.Core.Option.{Option, none, some}
 use Prim.Native.Nat.{ℕ, zero, suc, ◌+◌, ◌-◌, ◌≤◌, ◌<◌}
-use mathlib.Core.List.{List, [], ◌∷◌, ◌++◌, map, map_map, map-append}
+use mathlib.Core.List.{List, [], ◌∷◌, ◌++◌, map, map-map, map-append}
 use native.Mathlib.Omega.{arith}
 use native.Mathlib.Nat.{eq-or-lt_of_le}
 use lib.Dec.{eqb, ltb}
@@ -123,7 +123,7 @@ onward e rs = map (λ (r : List Belt). e ∷ r) rs
 
 onward_renamed : (f : ℕ → ℕ) (e : Belt) (rs : List (List Belt)) → onward (renamed_belt f e) (map (renamed_route f) rs) ≡ map (renamed_route f) (onward e rs)
 onward_renamed f e rs =
-    map_map (λ (r : List Belt). renamed_belt f e ∷ r) (renamed_route f) rs ∙ sym (map_map (renamed_route f) (λ (r : List Belt). e ∷ r) rs)
+    map-map (λ (r : List Belt). renamed_belt f e ∷ r) (renamed_route f) rs ∙ sym (map-map (renamed_route f) (λ (r : List Belt). e ∷ r) rs)
 
 module _ (f : ℕ → ℕ) (p : Plan) where
   of_length : (n s t : ℕ) → routes_of (renamed f p) n s t ≡ map (renamed_route f) (routes_of p n s t)

@@ -8,7 +8,7 @@ use plan::refusal;
 use plan::refusal::Refusal;
 
 // What is answered: the length of the archive form that was written, or why it is refused.
-#[derive(Drop)]
+#[derive(Clone, Copy)]
 pub enum Answer {
     Written(usize),
     Refused(Refusal),

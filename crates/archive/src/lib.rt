@@ -4,6 +4,8 @@
 //   indices  the new index of each belt
 //   writer   the records of each sort, and all of them
 //   entry    the archive form of any bytes, with the refusals
+#![tactic(auto)]
+
 pub mod entry;
 mod indices;
 mod writer;

@@ -14,49 +14,49 @@ use Rattle.archive.proofs.entry.archive.Tie as tie
 abbrev lent : tie.Start → Lent
 lent c = lent_of c.args.p.now c.args.out.now
 
-check-requires : tie.Need-check-requires
+check-requires : tie.Need-check-verdict-requires
 check-requires c κs = search rules
 
-enum-known-verdict : tie.Need-enum-known-verdict
+enum-known-verdict : tie.Need-enum_known-verdict
 enum-known-verdict c = search rules
 
 -- the plan is refused: its refusal is passed on
-returns : tie.Need-returns
+returns : tie.Need-returns-in-Refused
 returns c =
-    let start = c.before.before.before.before.before.before in
-    let r = c.before.verdict.given.0.0 in
-    let answer = sym (ap number_of c.before.verdict.given.1) ∙ c.before.before.before.check.ensures in
+    let start = c.before.before.before.before in
+    let r = c.in-Refused.r in
+    let answer = sym (ap number_of c.in-Refused.is) ∙ c.check-verdict.ensures in
     refused_told start.args.p.now start.args.out.now r (plan_refused (lent start) _ (nonzero r) (sym answer))
 
-enum_told : tie.Need-enum-told
+enum_told : tie.Need-enum_told-1
 enum_told c = search rules
 
 -- where all was asked for
-abbrev begun : tie.After-enum-told → tie.Start
-begun c = c.before.before.before.before.before
+abbrev begun : tie.In_default → tie.Start
+begun c = c.before.before.before.before
 
 -- past the check of the plan: it is accepted
-accepted : (c : tie.After-enum-told) → Accepted (begun c).args.p.now
-accepted c = record { unrefused = sym c.before.before.check.ensures ∙ ap number_of c.enum_told.given.1 }
+accepted : (c : tie.In_default) → Accepted (begun c).args.p.now
+accepted c = record { unrefused = sym c.check-verdict.ensures ∙ ap number_of c.in_default.is }
 
-returns-2 : tie.Need-returns-2
+returns-2 : tie.Need-returns-then-out-p
 returns-2 c =
     let past = c.before in
     let start = begun past in
-    refused_told start.args.p.now start.args.out.now ShortPlanBuffer (refused_16 (lent start) (accepted past) c.if1.true)
+    refused_told start.args.p.now start.args.out.now ShortPlanBuffer (refused_16 (lent start) (accepted past) c.if-out-p.true)
 
 write-requires : tie.Need-write-requires
-write-requires c κs = (accepted c.before.before, c.before.if1.false)
+write-requires c κs = (accepted c.before.before, c.before.if-out-p.false)
 
-same_length : tie.Need-same-length
+same_length : tie.Need-shape_of-out
 same_length c = search rules
 
-returns-3 : tie.Need-returns-3
+returns-3 : tie.Need-returns
 returns-3 c =
     let put = c.before.before in
     let room = put.before.before in
     let start = begun room.before in
-    written_told (accepted room.before) start.args.out.now _ room.if1.false put.write.ensures
+    written_told (accepted room.before) start.args.out.now _ room.if-out-p.false put.write.ensures
 
 pub archive_spec : {M : Type 1} → statement M
 archive_spec =

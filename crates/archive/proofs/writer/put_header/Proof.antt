@@ -9,7 +9,7 @@ use Rattle.archive.proofs.WriteAnswer.{rules_low, header_put}
 use Rattle.archive.proofs.writer.put_header.Statement.{statement}
 use Rattle.archive.proofs.writer.put_header.Tie as tie
 
-first-rule-requires : tie.Need-first-rule-requires
+first-rule-requires : tie.Need-first_rule-has_rules-requires
 first-rule-requires c κs = search rules
 
 -- record 0 is there, and has room
@@ -25,7 +25,7 @@ field-requires c κs = (omega arith, there c.before.before.before.before.before)
 field-requires-2 : tie.Need-field-requires-2
 field-requires-2 c κs = (omega arith, there c.before.before.before.before.before.before)
 
-index-if-requires : tie.Need-index-if-requires
+index-if-requires : tie.Need-index_if-requires
 index-if-requires c κs =
     let start = c.before.before.before.before.before.before.before in
     rules_low start.requires.0 start.args.at start.requires.1
@@ -33,10 +33,10 @@ index-if-requires c κs =
 field-requires-3 : tie.Need-field-requires-3
 field-requires-3 c κs = (omega arith, there c.before.before.before.before.before.before.before.before)
 
-put-record-requires : tie.Need-put-record-requires
+put-record-requires : tie.Need-put_record-requires
 put-record-requires c κs = room c.before.before.before.before.before.before.before.before.before
 
-same_length : tie.Need-same-length
+same_length : tie.Need-shape_of-out
 same_length c = search rules
 
 returns : tie.Need-returns
@@ -48,8 +48,8 @@ returns c =
     let junctions = modes.before in
     let found = junctions.before.before.before in
     let start = found.before.before.before in
-    header_put start.requires.0 start.args.out.now start.args.at start.requires.1 _ found.first_rule.ensures _ refl
-    junctions.field.ensures modes.field2.ensures link.index-if.ensures count.field3.ensures _ put.put_record.ensures
+    header_put start.requires.0 start.args.out.now start.args.at start.requires.1 _ found.first_rule-has_rules.ensures _ refl
+    junctions.field.ensures modes.field-2.ensures link.index_if.ensures count.field-3.ensures _ put.put_record.ensures
 
 pub put_header_spec : {M : Type 1} → statement M
 put_header_spec =

@@ -5,28 +5,28 @@ use Rattle.archive.proofs.WriteRules.{rule_put}
 use Rattle.archive.proofs.writer.put_rule.Statement.{statement}
 use Rattle.archive.proofs.writer.put_rule.Tie as tie
 
-add-put-literals : tie.Need-overflow-add-put-literals
+add-put-literals : tie.Need-overflow_add-at
 add-put-literals c = search rules
 
-put-literals-requires : tie.Need-put-literals-requires
+put-literals-requires : tie.Need-put_literals-end-requires
 put-literals-requires c κs = search rules
 
-first-literal-requires : tie.Need-first-literal-requires
+first-literal-requires : tie.Need-first_literal-has_literals-requires
 first-literal-requires c κs = search rules
 
-index-if-requires : tie.Need-index-if-requires
+index-if-requires : tie.Need-index_if-requires
 index-if-requires c κs = search rules
 
-add-index-if : tie.Need-overflow-add-index-if
+add-index-if : tie.Need-overflow_add-at-2
 add-index-if c = search rules
 
-index-if-requires-2 : tie.Need-index-if-requires-2
+index-if-requires-2 : tie.Need-index_if-requires-2
 index-if-requires-2 c κs = search rules
 
-put-record-requires : tie.Need-put-record-requires
+put-record-requires : tie.Need-put_record-requires
 put-record-requires c κs = search rules
 
-same_length : tie.Need-same-length
+same_length : tie.Need-shape_of-out
 same_length c = search rules
 
 returns : tie.Need-returns
@@ -38,8 +38,8 @@ returns c =
     let literals = found.before.before.before in
     let start = literals.before.before.before.before.before in
     rule_put start.requires.0 start.args.out.now start.args.at start.args.rule.0 start.requires.2
-    _ literals.put-literals.ensures.0 _ literals.put-literals.ensures.1
-    _ found.first_literal.ensures start.args.more _ refl link.index-if.ensures second.index-if2.ensures
+    _ literals.put_literals-end.ensures.0 _ literals.put_literals-end.ensures.1
+    _ found.first_literal-has_literals.ensures start.args.more _ refl link.index_if.ensures second.index_if-2.ensures
     _ put.put_record.ensures start.requires.4
 
 pub put_rule_spec : {M : Type 1} → statement M

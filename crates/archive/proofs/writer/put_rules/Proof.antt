@@ -10,68 +10,68 @@ use Rattle.archive.proofs.WriteRules.{RulesPut, rules_start_lem, rules_room, rul
 use Rattle.archive.proofs.writer.put_rules.Statement.{statement}
 use Rattle.archive.proofs.writer.put_rules.Tie as tie
 
-abbrev invariant-loop : tie.invariant-loop
+abbrev invariant-loop : tie.invariant-loop-rule
 invariant-loop p new at out₀ rule₀ i₀ out rule i = RulesPut p out₀ at out rule.0 i
 
-abbrev decreases-loop : tie.decreases-loop
+abbrev decreases-loop : tie.decreases-loop-rule
 decreases-loop p new at out₀ rule₀ i₀ out rule i = length (rules_from p rule.0)
 
-first-rule-requires : tie.Need-first-rule-requires invariant-loop decreases-loop
+first-rule-requires : tie.Need-first_rule-rule-requires invariant-loop decreases-loop
 first-rule-requires c κs = c.before.before.before.requires.0
 
-loop-holds : tie.Need-loop-init invariant-loop decreases-loop
+loop-holds : tie.Need-loop-rule-init invariant-loop decreases-loop
 loop-holds c =
     let start = c.before.before.before.before in
-    rules_start_lem start.requires.0 start.args.out.now start.args.at start.requires.2 _ c.first_rule.ensures
+    rules_start_lem start.requires.0 start.args.out.now start.args.at start.requires.2 _ c.first_rule-rule.ensures
 
 -- where it was begun
-abbrev begun : tie.At-loop invariant-loop decreases-loop → tie.Start invariant-loop decreases-loop
+abbrev begun : tie.At-loop-rule invariant-loop decreases-loop → tie.Start invariant-loop decreases-loop
 begun c = c.before.before.before.before.before
 
 -- the rule of this turn
-rule_is : (c : tie.Then1 invariant-loop decreases-loop) → IsRule (begun c.before.before).args.p.now c.before.before.loop.rule.0
-rule_is c = c.before.before.loop.invariant.is_rule c.if1.true
+rule_is : (c : tie.In-loop-rule invariant-loop decreases-loop) → IsRule (begun c.before.before).args.p.now c.before.before.loop-rule.rule.0
+rule_is c = c.before.before.loop-rule.invariant.is_rule c.loop-rule-test.true
 
-next-rule-requires : tie.Need-next-rule-requires invariant-loop decreases-loop
-next-rule-requires c κs = ((begun c.before.before).pre.0, rule_is c)
+next-rule-requires : tie.Need-next_rule-next-requires invariant-loop decreases-loop
+next-rule-requires c κs = ((begun c.before.before).requires.0, rule_is c)
 
-put-rule-requires : tie.Need-put-rule-requires invariant-loop decreases-loop
+put-rule-requires : tie.Need-put_rule-i-requires invariant-loop decreases-loop
 put-rule-requires c κs =
     let turn = c.before.before.before in
     let at = turn.before.before in
     let start = begun at in
-    let low = rules_room start.pre.0 at.loop.invariant turn.if1.true in (
-      start.pre.0,
-      start.pre.1,
+    let low = rules_room start.requires.0 at.loop-rule.invariant turn.loop-rule-test.true in (
+      start.requires.0,
+      start.requires.1,
       rule_is turn,
-      omega (arith, low, (records_few start.pre.0).0),
-      omega (arith, low, start.pre.3, at.loop.invariant.size),
+      omega (arith, low, (records_few start.requires.0).0),
+      omega (arith, low, start.requires.3, at.loop-rule.invariant.size),
     )
 
-loop-less : tie.Need-loop-smaller invariant-loop decreases-loop
+loop-less : tie.Need-loop-rule-smaller invariant-loop decreases-loop
 loop-less c =
     let next = c.before.before.before.before.before in
     let turn = next.before in
     let at = turn.before.before in
-    rule_shorter (begun at).requires.0 at.loop.rule.0 (rule_is turn) _ next.next_rule.ensures
+    rule_shorter (begun at).requires.0 at.loop-rule.rule.0 (rule_is turn) _ next.next_rule-next.ensures
 
-loop-again : tie.Need-loop-preserved invariant-loop decreases-loop
+loop-again : tie.Need-loop-rule-preserved invariant-loop decreases-loop
 loop-again c =
     let put = c.before.before in
     let next = put.before.before.before in
     let turn = next.before in
     let at = turn.before.before in
     let start = begun at in
-    rules_put start.pre.0 at.loop.invariant turn.if1.true start.pre.3 _ next.next_rule.ensures _ refl
-    _ put.put-rule.ensures.0 _ put.put-rule.ensures.1
+    rules_put start.requires.0 at.loop-rule.invariant turn.loop-rule-test.true start.requires.3 _ next.next_rule-next.ensures _ refl
+    _ put.put_rule-i.ensures.0 _ put.put_rule-i.ensures.1
 
-same_length : tie.Need-same-length invariant-loop decreases-loop
-same_length c = c.before.before.loop.invariant.size
+same_length : tie.Need-shape_of-out invariant-loop decreases-loop
+same_length c = c.before.before.loop-rule.invariant.size
 
 returns : tie.Need-returns invariant-loop decreases-loop
 returns c =
     let at = c.before.before in
-    rules_done (begun at).requires.0 at.loop.invariant c.if1.false (begun at).requires.3
+    rules_done (begun at).requires.0 at.loop-rule.invariant c.loop-rule-test.false (begun at).requires.3
 
 pub put_rules_spec : {M : Type 1} → statement M
 put_rules_spec =

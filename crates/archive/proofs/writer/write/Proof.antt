@@ -13,40 +13,40 @@ use Rattle.archive.proofs.writer.write.Tie as tie
 room : (c : tie.Start) → 12 * records c.args.p.now ≤ length c.args.out.now
 room c = omega (arith, c.requires.1, (records_few c.requires.0).1)
 
-number-belts-requires : tie.Need-number-belts-requires
+number-belts-requires : tie.Need-number_belts-rules_start-requires
 number-belts-requires c κs = search rules
 
-put-header-requires : tie.Need-put-header-requires
+put-header-requires : tie.Need-put_header-requires
 put-header-requires c κs =
     let numbered = c.before in
     let start = numbered.before.before.before.before in
-    (start.requires.0, numbered.number-belts.ensures.1, room start)
+    (start.requires.0, numbered.number_belts-rules_start.ensures.1, room start)
 
-slice-aggregate-put-junctions : tie.Need-slice-aggregate-put-junctions
+slice-aggregate-put-junctions : tie.Need-slice_bounds-put_junctions-end
 slice-aggregate-put-junctions c = search rules
 
-put-junctions-requires : tie.Need-put-junctions-requires
+put-junctions-requires : tie.Need-put_junctions-requires
 put-junctions-requires c κs =
     let head = c.before.before.before.before in
     let numbered = head.before.before in
     let start = numbered.before.before.before.before in
-    (start.requires.0, numbered.number-belts.ensures.0, omega (arith, room start, head.put-header.auto.1.1.0))
+    (start.requires.0, numbered.number_belts-rules_start.ensures.0, omega (arith, room start, head.put_header.auto.out))
 
-slice-aggregate-put-belts : tie.Need-slice-aggregate-put-belts
+slice-aggregate-put-belts : tie.Need-slice_bounds-put_belts-end
 slice-aggregate-put-belts c = search rules
 
-put-belts-requires : tie.Need-put-belts-requires
+put-belts-requires : tie.Need-put_belts-requires
 put-belts-requires c κs =
     let junctions = c.before.before.before.before in
     let head = junctions.before.before.before.before.before in
     let numbered = head.before.before in
     let start = numbered.before.before.before.before in
-    (start.requires.0, numbered.number-belts.ensures.0, omega (arith, room start, head.put-header.auto.1.1.0, junctions.put-junctions.auto.1.1.0))
+    (start.requires.0, numbered.number_belts-rules_start.ensures.0, omega (arith, room start, head.put_header.auto.out, junctions.put_junctions.auto.out))
 
-slice-aggregate-put-rules : tie.Need-slice-aggregate-put-rules
+slice-aggregate-put-rules : tie.Need-slice_bounds-put_rules-end
 slice-aggregate-put-rules c = search rules
 
-put-rules-requires : tie.Need-put-rules-requires
+put-rules-requires : tie.Need-put_rules-requires
 put-rules-requires c κs =
     let belts = c.before.before.before.before in
     let junctions = belts.before.before.before.before.before in
@@ -54,12 +54,12 @@ put-rules-requires c κs =
     let numbered = head.before.before in
     let start = numbered.before.before.before.before in (
       start.requires.0,
-      numbered.number-belts.ensures.0,
-      numbered.number-belts.ensures.1,
-      omega (arith, room start, head.put-header.auto.1.1.0, junctions.put-junctions.auto.1.1.0, belts.put-belts.auto.1.1.0),
+      numbered.number_belts-rules_start.ensures.0,
+      numbered.number_belts-rules_start.ensures.1,
+      omega (arith, room start, head.put_header.auto.out, junctions.put_junctions.auto.out, belts.put_belts.auto.out),
     )
 
-same_length : tie.Need-same-length
+same_length : tie.Need-shape_of-out
 same_length c = search rules
 
 returns : tie.Need-returns
@@ -70,8 +70,8 @@ returns c =
     let head = junctions.before.before.before.before.before in
     let numbered = head.before.before in
     let start = numbered.before.before.before.before in
-    written start.requires.0 start.args.out.now (room start) _ _ _ _ _ numbered.number-belts.ensures.1
-    head.put-header.ensures junctions.put-junctions.ensures belts.put-belts.ensures all.put-rules.ensures
+    written start.requires.0 start.args.out.now (room start) _ _ _ _ _ numbered.number_belts-rules_start.ensures.1
+    head.put_header.ensures junctions.put_junctions.ensures belts.put_belts.ensures all.put_rules.ensures
 
 pub write_spec : {M : Type 1} → statement M
 write_spec =
