@@ -1,6 +1,8 @@
 // The C interface, declared in include/planner.h: the check of a plan, the search, the check of a sheet, and the archive form of a plan. A slice is lent
 // as a pointer and a length; a query and a reply are handed over by value. What they answer and write is what the crates below say; no function asks
 // anything of its caller.
+#![tactic(auto)]
+
 ghost use Rattle.std.specs.Prelude.{◌≡◌};
 ghost use Rattle.plan.specs.Refusals.{refusal};
 ghost use Rattle.route.specs.Refusals.{sheet_refusal};
@@ -16,7 +18,7 @@ use search::query::Query;
 // A query of a caller. Bit m-1 of mask locks mode m, and that of values says that it is locked on. No function looks at minute yet: it is for later,
 // and a caller sets it to 0.
 #[repr(C)]
-#[derive(Drop)]
+#[derive(Clone, Copy)]
 pub struct PlannerQuery {
     pub s: u64,
     pub t: u64,
@@ -31,7 +33,7 @@ pub struct PlannerQuery {
 // The reply to a caller: 0 for a route or an archive form, 100 for none, 101 for spent, or the number of the broken line; how many subproblems were
 // opened; and the length of what was written. What an answer does not have is 0. No function counts tests yet: they are 0.
 #[repr(C)]
-#[derive(Drop)]
+#[derive(Clone, Copy)]
 pub struct PlannerReply {
     pub number: u64,
     pub opened: u64,

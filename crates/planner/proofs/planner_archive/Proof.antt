@@ -4,25 +4,25 @@ use borrow.Author.Rules.{rules}
 use Rattle.planner.proofs.planner_archive.Statement.{statement}
 use Rattle.planner.proofs.planner_archive.Tie as tie
 
-archive-requires : tie.Need-archive-requires
+archive-requires : tie.Need-archive-answer-requires
 archive-requires c κs = search rules
 
 number-requires : tie.Need-number-requires
 number-requires c κs = search rules
 
-cast-t7 : tie.Need-overflow-cast-t7
+cast-t7 : tie.Need-overflow_cast-result
 cast-t7 c = search rules
 
 size-requires : tie.Need-size-requires
 size-requires c κs = search rules
 
-same_length : tie.Need-same-length
+same_length : tie.Need-shape_of-out
 same_length c = search rules
 
 returns : tie.Need-returns
 returns c =
     let numbered = c.before in
-    let told = numbered.before.before.before.archive.ensures in (
+    let told = numbered.before.before.before.archive-answer.ensures in (
       λ i. record { number = (numbered.number.ensures ∙ told.number) i; opened = 0; length = (c.size.ensures ∙ told.size) i; tests = 0 },
       told.out,
     )

@@ -10,19 +10,19 @@ use Rattle.planner.specs.Interface.{to_caller}
 use Rattle.planner.proofs.planner_search.Statement.{statement}
 use Rattle.planner.proofs.planner_search.Tie as tie
 
-trip-of-requires : tie.Need-trip-of-requires
+trip-of-requires : tie.Need-trip_of-requires
 trip-of-requires c κs = search rules
 
 search-requires : tie.Need-search-requires
 search-requires c κs = search rules
 
-reply-of-requires : tie.Need-reply-of-requires
+reply-of-requires : tie.Need-reply_of-reply-requires
 reply-of-requires c κs = search rules
 
-cast-t10 : tie.Need-overflow-cast-t10
+cast-t10 : tie.Need-overflow_cast-result
 cast-t10 c = search rules
 
-same_length : tie.Need-same-length
+same_length : tie.Need-shape_of-out
 same_length c = search rules
 
 -- the query with this trip
@@ -31,9 +31,9 @@ asking q trip = record { trip = trip; pick = q.pick; order = q.order; budget = q
 
 returns : tie.Need-returns
 returns c =
-    let numbers = c.before.reply-of in
+    let numbers = c.before.reply_of-reply in
     let searched = c.before.before.before.before in
-    let trip = searched.before.before.trip-of.ensures in
+    let trip = searched.before.before.trip_of.ensures in
     let a = searched.before.before.before.before.before.args in
     let b = a.p.now in
     let out = a.out.now in (
