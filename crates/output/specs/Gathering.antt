@@ -12,9 +12,9 @@
 --   GathersNumber room g cs n room' g'
 --                        both, after the bytes cs and the digits of the number n
 --
--- `Gathered` is declared by the code (src/lib.rt), `digits` and `Fewest` are the input and output library's. Assumes nothing.
+-- `Gathered` is declared by the code (src/lib.rt), `last_digits` and `IsDigitCount` stand in Digits.antt. Assumes nothing.
 use Rattle.std.specs.Prelude.{ℕ, ◌+◌, ◌≤◌, ◌≡◌, Bool, true, cond, List, [], ◌∷◌, ◌++◌, length, set, ltb}
-use Rattle.io.specs.Digits.{last_digits, IsDigitCount}
+use Rattle.output.specs.Digits.{last_digits, IsDigitCount}
 use Rattle.output.specs.declared.Gathered.{Gathered}
 
 abbrev pub place_of : ℕ → ℕ
