@@ -4,7 +4,7 @@
 --
 -- Assumes nothing.
 use Rattle.std.specs.Prelude.{ℕ, ◌≡◌, List, length}
-use Rattle.io.specs.Counts.{IsPrefixLen}
+use Rattle.output.specs.Counts.{IsPrefixLen}
 
 abbrev pub Fits : ℕ → List ℕ → Type 0
 Fits n bs = IsPrefixLen n bs × (4096 ≡ length bs)

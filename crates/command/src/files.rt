@@ -1,40 +1,62 @@
 // Files of bytes that are read. Where the system refuses, standard error says why. Which bytes a file has is outside the logic.
-ghost use Rattle.io.specs.Counts.{IsPrefixLen};
+ghost use Rattle.output.specs.Counts.{IsPrefixLen};
+
+use crate::paths;
+use output::Streams;
+use std::fs::Files;
+use std::io::{Error, Input, Read};
 
 // What was read of a file: whether it can be read, and how many bytes now stand at the start of the buffer.
-#[derive(Drop)]
+#[derive(Clone, Copy)]
 pub struct Contents {
     pub read: bool,
     pub size: usize,
 }
 
+// What bytes are read from.
+#[derive(Drop)]
+pub enum Source<F> {
+    // Standard input.
+    Input,
+    // An open file.
+    File(F),
+}
+
 // Says on standard error why a file can't be read. The name - stands for standard input.
-fn fail(name: &[u8]) {
-    if check::same(name, b"-") {
-        os::fail(b"standard input");
+fn fail<R: Streams>(rt: &R, name: &[u8], error: Error) {
+    if name == b"-".as_slice() {
+        output::fail(rt, b"standard input", error);
     } else {
-        os::fail(name);
+        output::fail(rt, name, error);
     }
 }
 
 // One read, of as much as there is at hand and room for; no bytes at the end of the input.
-fn read_some(fd: i32, buf: &mut [u8]) -> Contents
+fn read_some<R: Streams, S: Read>(rt: &R, source: &mut S, name: &[u8], buf: &mut [u8]) -> Contents
     ensures { IsPrefixLen result.size buf.new }
 {
-    let got = libc::read(fd, buf);
-    Contents {
-        read: 0 <= got,
-        size: io::count(got, buf),
+    match source.read(buf) {
+        Ok(size) => Contents {
+            read: true,
+            size: size,
+        },
+        Err(e) => {
+            fail(rt, name, e);
+            Contents {
+                read: false,
+                size: 0,
+            }
+        }
     }
 }
 
 // Reads until the buffer is full or the input ends.
-fn read_all(fd: i32, buf: &mut [u8]) -> Contents
+fn read_all<R: Streams, S: Read>(rt: &R, source: &mut S, name: &[u8], buf: &mut [u8]) -> Contents
     ensures { IsPrefixLen result.size buf.new }
 {
     let mut done = 0;
     while done < buf.len() {
-        let more = read_some(fd, &mut buf[done..]);
+        let more = read_some(rt, source, name, &mut buf[done..]);
         if !more.read {
             return Contents {
                 read: false,
@@ -52,40 +74,51 @@ fn read_all(fd: i32, buf: &mut [u8]) -> Contents
     }
 }
 
-// Opens a file for reading, and answers its descriptor, or a number below 0. The name - stands for standard input, which is open.
-pub fn open(name: &[u8]) -> i32 {
-    if check::same(name, b"-") {
-        return 0;
+// Opens a file for reading, or answers nothing. The name - stands for standard input, which is open.
+pub fn open<R: Files + Streams>(rt: &R, name: &[u8]) -> Option<Source<R::File>> {
+    if name == b"-".as_slice() {
+        return Some(Source::Input);
     }
-    let fd = os::open_read(name);
-    if fd < 0 {
-        fail(name);
+    match paths::open(rt, name) {
+        Ok(file) => Some(Source::File(file)),
+        Err(e) => {
+            fail(rt, name, e);
+            None
+        }
     }
-    fd
 }
 
-// Reads what `open` opened into the buffer, as much of it as there is room for, and closes it.
-pub fn read_opened(fd: i32, name: &[u8], buf: &mut [u8]) -> Contents
+// Reads what `open` opened into the buffer, as much of it as there is room for, and closes it, unless that
+// is standard input.
+pub fn read_opened<R: Files + Input + Streams>(
+    rt: &R,
+    source: Source<R::File>,
+    name: &[u8],
+    buf: &mut [u8],
+) -> Contents
     ensures { IsPrefixLen result.size buf.new }
 {
-    let contents = read_all(fd, buf);
-    if !contents.read {
-        fail(name);
+    match source {
+        Source::Input => {
+            let mut input = rt.reader();
+            read_all(rt, &mut input, name, buf)
+        }
+        Source::File(file) => {
+            let mut file = file;
+            read_all(rt, &mut file, name, buf)
+        }
     }
-    libc::close(fd);
-    contents
 }
 
 // Reads a file into the buffer, as much of it as there is room for. The name - stands for standard input.
-pub fn read(name: &[u8], buf: &mut [u8]) -> Contents
+pub fn read<R: Files + Input + Streams>(rt: &R, name: &[u8], buf: &mut [u8]) -> Contents
     ensures { IsPrefixLen result.size buf.new }
 {
-    let fd = open(name);
-    if fd < 0 {
-        return Contents {
+    match open(rt, name) {
+        Some(source) => read_opened(rt, source, name, buf),
+        None => Contents {
             read: false,
             size: 0,
-        };
+        },
     }
-    read_opened(fd, name, buf)
 }

@@ -3,7 +3,7 @@
 //   decimal     the number that a text writes
 //   arguments   the words that a program is started with
 //   files       files of bytes that are read
-//   status      which file a descriptor is open on
+//   status      which file is open
 //   saving      files that are written whole or not at all
 //   sheets      the file that a route sheet is written to, so that nothing is lost
 //   plans       the file that the archive form of a plan is written to, so that nothing is lost
@@ -12,6 +12,8 @@
 //   version     which version of the planner a program is of
 //
 // What the system hands over is outside the logic: the contracts say what is made of the bytes, and not that they are the user's or the file's.
+#![tactic(auto)]
+
 pub mod arguments;
 pub mod decimal;
 pub mod files;

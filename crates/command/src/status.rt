@@ -1,9 +1,17 @@
-// Which file a descriptor is open on. Two descriptors are open on one file where the device and the inode are the same, whatever names they were
-// opened by. What the system answers is outside the logic.
-use libc::types;
+// Which file is open. Two open files are one where the device and the inode are the same, whatever names they were opened by. What the system answers
+// is outside the logic.
+use crate::files::Source;
+use std::fs::{Files, Metadata, OpenFile};
+use std::os::unix::fs::MetadataExt;
+use std::{fs, io};
+
+// The kind of a file in its mode, and that of a regular file.
+const KIND: u32 = 0o170000;
+
+const REGULAR: u32 = 0o100000;
 
 // What the system tells of an open file. Where it isn't known, the numbers mean nothing.
-#[derive(Drop)]
+#[derive(Clone, Copy)]
 pub struct Status {
     pub known: bool,
     pub device: u64,
@@ -11,56 +19,34 @@ pub struct Status {
     pub mode: u32,
 }
 
-// What the call answered, and what it left in the struct that it was lent.
-#[derive(Drop)]
-struct Asked {
-    answer: i32,
-    stat: types::stat,
-}
-
-// A struct of zeros, for the call to fill.
-fn blank() -> types::stat {
-    let never = types::timespec {
-        tv_sec: 0,
-        tv_nsec: 0,
-    };
-    types::stat {
-        st_dev: 0,
-        st_ino: 0,
-        st_nlink: 0,
-        st_mode: 0,
-        st_uid: 0,
-        st_gid: 0,
-        __pad: 0,
-        st_rdev: 0,
-        st_size: 0,
-        st_blksize: 0,
-        st_blocks: 0,
-        st_atim: never,
-        st_mtim: never,
-        st_ctim: never,
-        __unused: [0; 3],
+// What the system's answer says.
+fn told(answer: io::Result<Metadata>) -> Status {
+    match answer {
+        Ok(metadata) => Status {
+            known: true,
+            device: metadata.dev(),
+            inode: metadata.ino(),
+            mode: metadata.mode(),
+        },
+        Err(_) => Status {
+            known: false,
+            device: 0,
+            inode: 0,
+            mode: 0,
+        },
     }
 }
 
-// The one function that lends a struct, which the checker does not cover, so its proof is by hand. All else is done with the struct by value.
-fn ask(fd: i32, mut stat: types::stat) -> Asked {
-    let answer = libc::fstat(fd, &mut stat);
-    Asked {
-        answer: answer,
-        stat: stat,
-    }
+// The device, the inode and the mode of an open file.
+pub fn of<F: OpenFile>(file: &F) -> Status {
+    told(file.metadata())
 }
 
-// The device, the inode and the mode of the file that a descriptor is open on.
-pub fn of(fd: i32) -> Status {
-    let asked = ask(fd, blank());
-    let stat = asked.stat;
-    Status {
-        known: asked.answer == 0,
-        device: stat.st_dev,
-        inode: stat.st_ino,
-        mode: stat.st_mode,
+// The same of what bytes are read from. Standard input has no call of its own, and is asked for by the name that the system gives to what it is open on.
+pub fn of_source<R: Files>(rt: &R, source: &Source<R::File>) -> Status {
+    match source {
+        Source::Input => told(fs::metadata(rt, "/proc/self/fd/0")),
+        Source::File(file) => of(file),
     }
 }
 
@@ -71,5 +57,5 @@ pub fn same(a: Status, b: Status) -> bool {
 
 // Whether it is a regular file: no folder, no device, no pipe.
 pub fn is_regular(status: Status) -> bool {
-    status.known && status.mode & libc::S_IFMT == libc::S_IFREG
+    status.known && status.mode & KIND == REGULAR
 }
