@@ -1,16 +1,15 @@
 -- The claim of specs/Claims.antt holds: what the search wrote reads as the route, and where it wrote nothing there is no sheet. Assumes nothing.
-use mathlib.Core.Path.{◌≡◌, refl, sym, ◌∙◌, ap, subst}
+use mathlib.Core.Path.{◌≡◌, refl, sym, ◌∙◌, ap}
 use mathlib.Core.Bool.{Bool, true}
 use Prim.Native.Nat.{ℕ}
-use mathlib.Core.List.{List, [], ◌++◌}
+use mathlib.Core.List.{List}
 use native.Mathlib.Omega.{arith}
 use lib.ListN.{length, take, drop, length-append}
 use lib.Dec.{leb}
 use borrow.Author.Tests.{le-leb}
 use Rattle.plan.specs.Reading.{Bytes}
-use Rattle.route.specs.declared.sheet.Sheet.{Sheet}
-use Rattle.route.specs.Sheets.{sheet_of, in_form, belts_on, cost_on, setting_on}
-use Rattle.route.specs.Values.{packed, sheet_in}
+use Rattle.route.specs.Sheets.{sheet_of, in_form}
+use Rattle.route.specs.Values.{packed}
 use Rattle.route.proofs.SheetReading.{round_trip}
 use Rattle.search.specs.declared.entry.Reply.{Reply}
 use Rattle.search.specs.Answers.{Request, Outcome, refused, route, nothing, spent, paused, outcome, reply_to, out_after}

@@ -5,6 +5,8 @@
 //   s t none opened                   no route is permitted
 //   s t spent opened                  the budget is spent
 //   refused n                         the number of the first broken line of the refusal table
+#![tactic(auto)]
+
 ghost use Rattle.std.specs.Prelude.{◌≡◌, false, List, ℕ, ◌≤◌};
 ghost use Rattle.plan.specs.Bounds.{max_steps};
 ghost use Rattle.plan.specs.Plan.{plan_of};
@@ -15,7 +17,7 @@ ghost use Rattle.route.specs.Permission.{wrong_lock};
 ghost use Rattle.search.specs.Values.{Prepared};
 ghost use Rattle.listing.specs.Lines.{blank, read_sheet, sheet_at, line_of};
 
-use output::{Gathered, Room, put, put_number};
+use output::{Gathered, Room, Streams, put, put_number};
 use plan::bounds::{MAX_NAMED, MAX_RECORDS, MAX_SHEET_BYTES, MAX_STEPS};
 use plan::check::Verdict;
 use plan::read;
@@ -29,7 +31,7 @@ use search::query::Query;
 use search::{entry, prepare};
 
 // Gathers the belts of a route, each behind a space.
-fn put_belts(room: &mut Room, gathered: Gathered, route: Route) -> Gathered
+fn put_belts<R: Streams>(rt: &R, room: &mut Room, gathered: Gathered, route: Route) -> Gathered
     requires { route.count ≤ max_steps }
 {
     let belts = route.belts;
@@ -37,23 +39,23 @@ fn put_belts(room: &mut Room, gathered: Gathered, route: Route) -> Gathered
     let mut k = 0;
     while k < route.count {
         let belt = belts[k];
-        now = put_number(room, now, b" ", belt.0 as u64);
+        now = put_number(rt, room, now, b" ", belt.0 as u64);
         k += 1;
     }
     now
 }
 
 // Prints the belts of a route, each behind a space.
-pub fn print_belts(route: Route)
+pub fn print_belts<R: Streams>(rt: &R, route: Route)
     requires { route.count ≤ max_steps }
 {
-    let mut room = io::large_buffer();
-    let gathered = put_belts(&mut room, output::nothing(), route);
-    output::finish(&room, gathered);
+    let mut room = [0u8; 65536];
+    let gathered = put_belts(rt, &mut room, output::nothing(), route);
+    output::finish(rt, &room, gathered);
 }
 
 // What is printed of an answer: its number, how many were opened, and what its sheet says; nothing where it has none.
-#[derive(Drop)]
+#[derive(Clone, Copy)]
 pub struct Line {
     pub number: u8,
     pub opened: u64,
@@ -111,48 +113,55 @@ pub fn line_of(answer: Answer, out: &[u8]) -> Line
 }
 
 // Gathers what a route's sheet says.
-fn put_route(room: &mut Room, gathered: Gathered, sheet: Sheet, opened: u64) -> Gathered
+fn put_route<R: Streams>(
+    rt: &R,
+    room: &mut Room,
+    gathered: Gathered,
+    sheet: Sheet,
+    opened: u64,
+) -> Gathered
     requires { sheet.route.count ≤ max_steps }
 {
-    let cost = put_number(room, gathered, b" ", sheet.cost);
-    let setting = put_number(room, cost, b" ", sheet.setting as u64);
-    let count = put_number(room, setting, b" ", opened);
-    put_belts(room, count, sheet.route)
+    let cost = put_number(rt, room, gathered, b" ", sheet.cost);
+    let setting = put_number(rt, room, cost, b" ", sheet.setting as u64);
+    let count = put_number(rt, room, setting, b" ", opened);
+    put_belts(rt, room, count, sheet.route)
 }
 
 // Gathers a line behind s and t.
-fn put_line(room: &mut Room, gathered: Gathered, line: Line) -> Gathered
+fn put_line<R: Streams>(rt: &R, room: &mut Room, gathered: Gathered, line: Line) -> Gathered
     requires { line.sheet.route.count ≤ max_steps }
 {
     if line.number == 0 {
-        return put_route(room, gathered, line.sheet, line.opened);
+        return put_route(rt, room, gathered, line.sheet, line.opened);
     }
     if line.number == 100 {
-        return put_number(room, gathered, b" none ", line.opened);
+        return put_number(rt, room, gathered, b" none ", line.opened);
     }
     if line.number == 101 {
-        return put_number(room, gathered, b" spent ", line.opened);
+        return put_number(rt, room, gathered, b" spent ", line.opened);
     }
-    put_number(room, gathered, b" refused ", line.number as u64)
+    put_number(rt, room, gathered, b" refused ", line.number as u64)
 }
 
 // Prints a line behind s and t.
-pub fn print_line(line: Line)
+pub fn print_line<R: Streams>(rt: &R, line: Line)
     requires { line.sheet.route.count ≤ max_steps }
 {
-    let mut room = io::large_buffer();
-    let gathered = put_line(&mut room, output::nothing(), line);
-    output::finish(&room, gathered);
+    let mut room = [0u8; 65536];
+    let gathered = put_line(rt, &mut room, output::nothing(), line);
+    output::finish(rt, &room, gathered);
 }
 
 // Gathers the line of a plan or a query that is refused.
-fn put_refused(room: &mut Room, gathered: Gathered, number: u8) -> Gathered {
-    let said = put_number(room, gathered, b"refused ", number as u64);
-    put(room, said, b"\n")
+fn put_refused<R: Streams>(rt: &R, room: &mut Room, gathered: Gathered, number: u8) -> Gathered {
+    let said = put_number(rt, room, gathered, b"refused ", number as u64);
+    put(rt, room, said, b"\n")
 }
 
 // Gathers the line of a query by its answer: s and t stand first; a refusal stands by itself.
-fn put_query(
+fn put_query<R: Streams>(
+    rt: &R,
     room: &mut Room,
     gathered: Gathered,
     trip: Trip,
@@ -161,23 +170,24 @@ fn put_query(
 ) -> Gathered {
     let line = line_of(answer, out);
     if line.number == 0 || 100 <= line.number {
-        let s = put_number(room, gathered, b"", trip.s);
-        let t = put_number(room, s, b" ", trip.t);
-        let all = put_line(room, t, line);
-        return put(room, all, b"\n");
+        let s = put_number(rt, room, gathered, b"", trip.s);
+        let t = put_number(rt, room, s, b" ", trip.t);
+        let all = put_line(rt, room, t, line);
+        return put(rt, room, all, b"\n");
     }
-    put_refused(room, gathered, line.number)
+    put_refused(rt, room, gathered, line.number)
 }
 
 // Prints the line of a query by its answer.
-pub fn print_query(trip: Trip, answer: Answer, out: &[u8]) {
-    let mut room = io::large_buffer();
-    let gathered = put_query(&mut room, output::nothing(), trip, answer, out);
-    output::finish(&room, gathered);
+pub fn print_query<R: Streams>(rt: &R, trip: Trip, answer: Answer, out: &[u8]) {
+    let mut room = [0u8; 65536];
+    let gathered = put_query(rt, &mut room, output::nothing(), trip, answer, out);
+    output::finish(rt, &room, gathered);
 }
 
 // The line from s to t of a prepared plan (search::prepare): pick 0, order 0, budget 1,000,000.
-fn put_pair(
+fn put_pair<R: Streams>(
+    rt: &R,
     room: &mut Room,
     gathered: Gathered,
     words: &[u64],
@@ -199,11 +209,12 @@ fn put_pair(
     };
     let mut out = [0u8; MAX_SHEET_BYTES];
     let answer = entry::find(words, numbers, places, clauses, query, &mut out);
-    put_query(room, gathered, trip, answer, &out)
+    put_query(rt, room, gathered, trip, answer, &out)
 }
 
 // The lines from s to each later junction, of which the last is `last`.
-fn put_from(
+fn put_from<R: Streams>(
+    rt: &R,
     room: &mut Room,
     gathered: Gathered,
     words: &[u64],
@@ -223,6 +234,7 @@ fn put_from(
     while t < last {
         t += 1;
         now = put_pair(
+            rt,
             room,
             now,
             words,
@@ -240,7 +252,8 @@ fn put_from(
 }
 
 // The lines of a prepared plan with so many junctions.
-fn put_all(
+fn put_all<R: Streams>(
+    rt: &R,
     room: &mut Room,
     gathered: Gathered,
     words: &[u64],
@@ -256,14 +269,14 @@ fn put_all(
     let mut now = gathered;
     let mut s = 1;
     while s < last {
-        now = put_from(room, now, words, numbers, places, clauses, s, last);
+        now = put_from(rt, room, now, words, numbers, places, clauses, s, last);
         s += 1;
     }
     now
 }
 
 // The lines of an accepted plan, which is prepared once.
-fn put_lines(room: &mut Room, gathered: Gathered, p: &[u8]) -> Gathered
+fn put_lines<R: Streams>(rt: &R, room: &mut Room, gathered: Gathered, p: &[u8]) -> Gathered
     requires { Accepted p.now }
 {
     let mut words = [0u64; MAX_NAMED + MAX_RECORDS];
@@ -272,32 +285,41 @@ fn put_lines(room: &mut Room, gathered: Gathered, p: &[u8]) -> Gathered
     let mut clauses = [0u32; MAX_RECORDS];
     prepare::prepare(p, &mut words, &mut numbers, &mut places, &mut clauses);
     let last = read::junctions(p) as u64;
-    put_all(room, gathered, &words, &numbers, &places, &clauses, last)
+    put_all(
+        rt, room, gathered, &words, &numbers, &places, &clauses, last,
+    )
 }
 
 // Gathers the listing of a plan that the check has given this number.
-fn put_listing(room: &mut Room, gathered: Gathered, p: &[u8], number: u8) -> Gathered
+fn put_listing<R: Streams>(
+    rt: &R,
+    room: &mut Room,
+    gathered: Gathered,
+    p: &[u8],
+    number: u8,
+) -> Gathered
     requires { number ≡ refusal p.now }
 {
     if number == 0 {
-        return put_lines(room, gathered, p);
+        return put_lines(rt, room, gathered, p);
     }
-    put_refused(room, gathered, number)
+    put_refused(rt, room, gathered, number)
 }
 
 // Prints a line for each two junctions s < t of the plan, in rising s, then t; or that the plan is refused. Answers the verdict of the
 // plan check.
-pub fn print_listing(p: &[u8]) -> Verdict
+pub fn print_listing<R: Streams>(rt: &R, p: &[u8]) -> Verdict
     ensures { number_of result ≡ refusal p.now }
 {
     let verdict = plan::check::check(p);
-    let mut room = io::large_buffer();
+    let mut room = [0u8; 65536];
     let gathered = put_listing(
+        rt,
         &mut room,
         output::nothing(),
         p,
         plan::check::number(verdict),
     );
-    output::finish(&room, gathered);
+    output::finish(rt, &room, gathered);
     verdict
 }
