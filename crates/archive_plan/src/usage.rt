@@ -1,8 +1,11 @@
 // How the program is used, in words.
 
+use output::Streams;
+
 // Prints how the program is used.
-pub fn print() {
+pub fn print<R: Streams>(rt: &R) {
     output::print(
+        rt,
         b"usage: archive_plan PLAN OUT
 Writes a depot plan anew in its archive form.
   PLAN   the file that holds the plan; - is standard input

@@ -4,17 +4,23 @@
 // error says what is wrong, and nothing else is done.
 //
 //   usage   how the program is used
+#![tactic(auto)]
+
 mod usage;
 
 use command::arguments::Request;
 use command::decimal::Number;
 use command::{arguments, files, refusals, version};
+use output::Streams;
 use route::check;
 use route::check::SheetVerdict;
 use route::path::{Lock, Trip};
+use std::env::Env;
+use std::fs::Files;
+use std::io::Input;
 
 // What is asked by the arguments: from where to where the sheet is to lead, and under which lock.
-#[derive(Drop)]
+#[derive(Clone, Copy)]
 enum Wanted {
     Trip(Trip),
     // An argument is no number.
@@ -22,17 +28,17 @@ enum Wanted {
 }
 
 // The trip that the arguments say.
-fn asked() -> Wanted {
-    let Number::Is(s) = arguments::number(2, b"S") else {
+fn asked<R: Env + Streams>(rt: &R) -> Wanted {
+    let Number::Is(s) = arguments::number(rt, 2, b"S") else {
         return Wanted::Wrong;
     };
-    let Number::Is(t) = arguments::number(3, b"T") else {
+    let Number::Is(t) = arguments::number(rt, 3, b"T") else {
         return Wanted::Wrong;
     };
-    let Number::Is(mask) = arguments::number_or(5, b"MASK", 0) else {
+    let Number::Is(mask) = arguments::number_or(rt, 5, b"MASK", 0) else {
         return Wanted::Wrong;
     };
-    let Number::Is(values) = arguments::number_with(6, b"VALUES", 5) else {
+    let Number::Is(values) = arguments::number_with(rt, 6, b"VALUES", 5) else {
         return Wanted::Wrong;
     };
     Wanted::Trip(Trip {
@@ -46,66 +52,66 @@ fn asked() -> Wanted {
 }
 
 // Prints what the check says of a sheet.
-fn print_verdict(p: &[u8], trip: Trip, h: &[u8]) {
+fn print_verdict<R: Streams>(rt: &R, p: &[u8], trip: Trip, h: &[u8]) {
     let verdict = check::check(p, trip, h);
     match verdict {
-        SheetVerdict::Accepted => output::print(b"accepted\n"),
-        SheetVerdict::Refused(r) => refusals::print_refused(r),
+        SheetVerdict::Accepted => output::print(rt, b"accepted\n"),
+        SheetVerdict::Refused(r) => refusals::print_refused(rt, r),
     }
 }
 
 // Checks the sheet of this name against a plan.
-fn check_file(p: &[u8], trip: Trip, sheet: &[u8]) {
+fn check_file<R: Files + Input + Streams>(rt: &R, p: &[u8], trip: Trip, sheet: &[u8]) {
     // Larger than any sheet, so that a byte too many is seen.
-    let mut h = io::buffer();
-    let contents = files::read(sheet, &mut h);
+    let mut h = [0u8; 4096];
+    let contents = files::read(rt, sheet, &mut h);
     let n = contents.size;
     if contents.read {
-        print_verdict(p, trip, &h[..n]);
+        print_verdict(rt, p, trip, &h[..n]);
     }
 }
 
 // Checks a sheet against a plan, both by name.
-fn check_files(plan: &[u8], trip: Trip, sheet: &[u8]) {
+fn check_files<R: Files + Input + Streams>(rt: &R, plan: &[u8], trip: Trip, sheet: &[u8]) {
     // Larger than any plan, so that a byte too many is seen.
-    let mut p = io::large_buffer();
-    let contents = files::read(plan, &mut p);
+    let mut p = [0u8; 65536];
+    let contents = files::read(rt, plan, &mut p);
     let n = contents.size;
     if contents.read {
-        check_file(&p[..n], trip, sheet);
+        check_file(rt, &p[..n], trip, sheet);
     }
 }
 
 // Does what the arguments ask. False where they are wrong.
-fn run() -> bool {
-    if !arguments::at_most(6) {
+fn run<R: Env + Files + Input + Streams>(rt: &R) -> bool {
+    if !arguments::at_most(rt, 6) {
         return false;
     }
-    let mut plan = io::buffer();
-    let n = arguments::input(1, b"PLAN", &mut plan);
+    let mut plan = [0u8; 4096];
+    let n = arguments::input(rt, 1, b"PLAN", &mut plan);
     if n == 0 {
         return false;
     }
-    let Wanted::Trip(trip) = asked() else {
+    let Wanted::Trip(trip) = asked(rt) else {
         return false;
     };
-    let mut sheet = io::buffer();
-    let m = arguments::file(4, b"SHEET", &mut sheet);
+    let mut sheet = [0u8; 4096];
+    let m = arguments::file(rt, 4, b"SHEET", &mut sheet);
     if m == 0 {
         return false;
     }
-    check_files(&plan[..n], trip, &sheet[..m]);
+    check_files(rt, &plan[..n], trip, &sheet[..m]);
     true
 }
 
-fn main() {
-    let request = arguments::requested();
+fn main(rt: HostRuntime) {
+    let request = arguments::requested(&rt);
     match request {
-        Request::Usage => usage::print(),
-        Request::Version => version::print(b"check_sheet"),
+        Request::Usage => usage::print(&rt),
+        Request::Version => version::print(&rt, b"check_sheet"),
         Request::Work => {
-            if !run() {
-                arguments::hint(b"check_sheet");
+            if !run(&rt) {
+                arguments::hint(&rt, b"check_sheet");
             }
         }
     }

@@ -1,8 +1,11 @@
 // How the program is used, in words.
 
+use output::Streams;
+
 // Prints how the program is used.
-pub fn print() {
+pub fn print<R: Streams>(rt: &R) {
     output::print(
+        rt,
         b"usage: check_sheet PLAN S T SHEET [MASK VALUES]
 Checks a route sheet against a depot plan.
   PLAN    the file that holds the plan; - is standard input

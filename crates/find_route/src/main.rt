@@ -10,20 +10,28 @@
 // left alone. Where the arguments or a file are not as they should be, standard error says what is wrong, and nothing else is done.
 //
 //   usage   how the program is used
+#![tactic(auto)]
+
 mod usage;
 
 use command::arguments::Request;
 use command::decimal::Number;
+use command::files::Source;
 use command::sheets::Place;
 use command::{arguments, files, refusals, sheets, version};
+use output::Streams;
 use plan::bounds::MAX_SHEET_BYTES;
 use route::path::{Lock, Trip};
 use search::entry;
 use search::entry::Answer;
 use search::query::Query;
+use std::env::Env;
+use std::fs::Files;
+use std::io::Input;
+use std::random::RandomSource;
 
 // What is asked by the arguments.
-#[derive(Drop)]
+#[derive(Clone, Copy)]
 enum Wanted {
     Query(Query),
     // An argument is no number.
@@ -31,26 +39,26 @@ enum Wanted {
 }
 
 // The query that the arguments ask.
-fn asked() -> Wanted {
-    let Number::Is(s) = arguments::number(2, b"S") else {
+fn asked<R: Env + Streams>(rt: &R) -> Wanted {
+    let Number::Is(s) = arguments::number(rt, 2, b"S") else {
         return Wanted::Wrong;
     };
-    let Number::Is(t) = arguments::number(3, b"T") else {
+    let Number::Is(t) = arguments::number(rt, 3, b"T") else {
         return Wanted::Wrong;
     };
-    let Number::Is(pick) = arguments::number_or(5, b"PICK", 0) else {
+    let Number::Is(pick) = arguments::number_or(rt, 5, b"PICK", 0) else {
         return Wanted::Wrong;
     };
-    let Number::Is(order) = arguments::number_or(6, b"ORDER", 0) else {
+    let Number::Is(order) = arguments::number_or(rt, 6, b"ORDER", 0) else {
         return Wanted::Wrong;
     };
-    let Number::Is(budget) = arguments::number_or(7, b"BUDGET", 1000000) else {
+    let Number::Is(budget) = arguments::number_or(rt, 7, b"BUDGET", 1000000) else {
         return Wanted::Wrong;
     };
-    let Number::Is(mask) = arguments::number_or(8, b"MASK", 0) else {
+    let Number::Is(mask) = arguments::number_or(rt, 8, b"MASK", 0) else {
         return Wanted::Wrong;
     };
-    let Number::Is(values) = arguments::number_with(9, b"VALUES", 8) else {
+    let Number::Is(values) = arguments::number_with(rt, 9, b"VALUES", 8) else {
         return Wanted::Wrong;
     };
     Wanted::Query(Query {
@@ -70,78 +78,95 @@ fn asked() -> Wanted {
 
 // Answers a query: writes the sheet of a route to the file of this name, where `place` was seen, then prints the line. Where the sheet can't be
 // written nothing is printed.
-fn answer(p: &[u8], query: Query, sheet: &[u8], place: Place) {
+fn answer<R: Files + RandomSource + Alloc + Streams>(
+    rt: &R,
+    p: &[u8],
+    query: Query,
+    sheet: &[u8],
+    place: Place,
+) {
     let mut out = [0u8; MAX_SHEET_BYTES];
     let answer = entry::search(p, query, &mut out);
     let reply = entry::reply_of(answer);
     let size = reply.size;
     if reply.number == 0 {
-        if sheets::write(sheet, &out[..size], place) {
-            listing::print_query(query.trip, answer, &out);
+        if sheets::write(rt, sheet, &out[..size], place) {
+            listing::print_query(rt, query.trip, answer, &out);
         }
         return;
     }
-    listing::print_query(query.trip, answer, &out);
+    listing::print_query(rt, query.trip, answer, &out);
     if let Answer::Refused(r) = answer {
-        refusals::tell_cause(r);
+        refusals::tell_cause(rt, r);
     }
-    sheets::tell_kept(sheet, place);
+    sheets::tell_kept(rt, sheet, place);
 }
 
 // Reads the plan that is open, and answers a query about it.
-fn read_and_answer(fd: i32, plan: &[u8], query: Query, sheet: &[u8], place: Place) {
+fn read_and_answer<R: Files + Input + RandomSource + Alloc + Streams>(
+    rt: &R,
+    source: Source<R::File>,
+    plan: &[u8],
+    query: Query,
+    sheet: &[u8],
+    place: Place,
+) {
     // Larger than any plan, so that a byte too many is seen.
-    let mut p = io::large_buffer();
-    let contents = files::read_opened(fd, plan, &mut p);
+    let mut p = [0u8; 65536];
+    let contents = files::read_opened(rt, source, plan, &mut p);
     let n = contents.size;
     if contents.read {
-        answer(&p[..n], query, sheet, place);
+        answer(rt, &p[..n], query, sheet, place);
     }
 }
 
 // Answers a query about the plan of this name. What stands where the sheet is to go is looked at first, so that no other file is lost.
-fn find(plan: &[u8], query: Query, sheet: &[u8]) {
-    let fd = files::open(plan);
-    if fd < 0 {
+fn find<R: Files + Input + RandomSource + Alloc + Streams>(
+    rt: &R,
+    plan: &[u8],
+    query: Query,
+    sheet: &[u8],
+) {
+    let Some(source) = files::open(rt, plan) else {
         return;
-    }
-    let place = sheets::look(sheet, fd);
+    };
+    let place = sheets::look(rt, sheet, &source);
     if let Place::Taken = place {
         return;
     }
-    read_and_answer(fd, plan, query, sheet, place);
+    read_and_answer(rt, source, plan, query, sheet, place);
 }
 
 // Does what the arguments ask. False where they are wrong.
-fn run() -> bool {
-    if !arguments::at_most(9) {
+fn run<R: Env + Files + Input + RandomSource + Alloc + Streams>(rt: &R) -> bool {
+    if !arguments::at_most(rt, 9) {
         return false;
     }
-    let mut plan = io::buffer();
-    let n = arguments::input(1, b"PLAN", &mut plan);
+    let mut plan = [0u8; 4096];
+    let n = arguments::input(rt, 1, b"PLAN", &mut plan);
     if n == 0 {
         return false;
     }
-    let Wanted::Query(query) = asked() else {
+    let Wanted::Query(query) = asked(rt) else {
         return false;
     };
-    let mut sheet = io::buffer();
-    let m = arguments::file(4, b"SHEET", &mut sheet);
+    let mut sheet = [0u8; 4096];
+    let m = arguments::file(rt, 4, b"SHEET", &mut sheet);
     if m == 0 {
         return false;
     }
-    find(&plan[..n], query, &sheet[..m]);
+    find(rt, &plan[..n], query, &sheet[..m]);
     true
 }
 
-fn main() {
-    let request = arguments::requested();
+fn main(rt: HostRuntime) {
+    let request = arguments::requested(&rt);
     match request {
-        Request::Usage => usage::print(),
-        Request::Version => version::print(b"find_route"),
+        Request::Usage => usage::print(&rt),
+        Request::Version => version::print(&rt, b"find_route"),
         Request::Work => {
-            if !run() {
-                arguments::hint(b"find_route");
+            if !run(&rt) {
+                arguments::hint(&rt, b"find_route");
             }
         }
     }

@@ -1,8 +1,11 @@
 // How the program is used, in words.
 
+use output::Streams;
+
 // Prints how the program is used.
-pub fn print() {
+pub fn print<R: Streams>(rt: &R) {
     output::print(
+        rt,
         b"usage: find_route PLAN S T SHEET [PICK [ORDER [BUDGET [MASK VALUES]]]]
 Finds the cheapest permitted route of a depot plan, and writes its sheet.
   PLAN    the file that holds the plan; - is standard input

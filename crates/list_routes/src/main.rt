@@ -9,52 +9,58 @@
 // Where the arguments or the file are not as they should be, standard error says what is wrong, and nothing else is done.
 //
 //   usage   how the program is used
+#![tactic(auto)]
+
 mod usage;
 
 use command::arguments::Request;
 use command::{arguments, files, refusals, version};
+use output::Streams;
 use plan::check::Verdict;
+use std::env::Env;
+use std::fs::Files;
+use std::io::Input;
 
 // Lists the routes of the plan of this name.
-fn list(name: &[u8]) {
+fn list<R: Files + Input + Streams>(rt: &R, name: &[u8]) {
     // Larger than any plan, so that a byte too many is seen.
-    let mut p = io::large_buffer();
-    let contents = files::read(name, &mut p);
+    let mut p = [0u8; 65536];
+    let contents = files::read(rt, name, &mut p);
     let n = contents.size;
     if contents.read {
-        let verdict = listing::print_listing(&p[..n]);
+        let verdict = listing::print_listing(rt, &p[..n]);
         if let Verdict::Refused(r) = verdict {
-            refusals::tell_cause(r);
+            refusals::tell_cause(rt, r);
         }
     }
 }
 
 // Does what the arguments ask. False where they are wrong.
-fn run() -> bool {
-    if !arguments::at_most(1) {
+fn run<R: Env + Files + Input + Streams>(rt: &R) -> bool {
+    if !arguments::at_most(rt, 1) {
         return false;
     }
-    if !arguments::given(1) {
-        list(b"-");
+    if !arguments::given(rt, 1) {
+        list(rt, b"-");
         return true;
     }
-    let mut name = io::buffer();
-    let n = arguments::input(1, b"PLAN", &mut name);
+    let mut name = [0u8; 4096];
+    let n = arguments::input(rt, 1, b"PLAN", &mut name);
     if n == 0 {
         return false;
     }
-    list(&name[..n]);
+    list(rt, &name[..n]);
     true
 }
 
-fn main() {
-    let request = arguments::requested();
+fn main(rt: HostRuntime) {
+    let request = arguments::requested(&rt);
     match request {
-        Request::Usage => usage::print(),
-        Request::Version => version::print(b"list_routes"),
+        Request::Usage => usage::print(&rt),
+        Request::Version => version::print(&rt, b"list_routes"),
         Request::Work => {
-            if !run() {
-                arguments::hint(b"list_routes");
+            if !run(&rt) {
+                arguments::hint(&rt, b"list_routes");
             }
         }
     }

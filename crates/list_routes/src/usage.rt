@@ -1,8 +1,11 @@
 // How the program is used, in words.
 
+use output::Streams;
+
 // Prints how the program is used.
-pub fn print() {
+pub fn print<R: Streams>(rt: &R) {
     output::print(
+        rt,
         b"usage: list_routes [PLAN]
 Lists the cheapest permitted routes of a depot plan, a line for every two
 junctions s < t.

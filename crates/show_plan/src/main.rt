@@ -4,6 +4,8 @@
 // nothing else is done.
 //
 //   usage   how the program is used
+#![tactic(auto)]
+
 mod usage;
 
 ghost use Rattle.std.specs.Prelude.{◌≡◌, ◌≤◌};
@@ -13,14 +15,18 @@ ghost use Rattle.plan.specs.Refusals.{refusal};
 
 use command::arguments::Request;
 use command::{arguments, files, refusals, version};
-use output::{Gathered, Room, put, put_number};
+use output::{Gathered, Room, Streams, put, put_number};
 use plan::bounds::MAX_RECORDS;
 use plan::check::Verdict;
 use plan::named::Place;
 use plan::read::{BeltId, Literal, LiteralId};
+use std::env::Env;
+use std::fs::Files;
+use std::io::Input;
 
 // The line of a belt that leaves junction j; named belts have a place.
-fn put_belt(
+fn put_belt<R: Streams>(
+    rt: &R,
     room: &mut Room,
     gathered: Gathered,
     p: &[u8],
@@ -32,19 +38,26 @@ fn put_belt(
         × IsBelt p.now belt.0 }
 {
     let place = plan::named::place_of(places, belt);
-    let name = put_number(room, gathered, b"belt ", belt.0 as u64);
-    let from = put_number(room, name, b" from ", j as u64);
-    let to = put_number(room, from, b" to ", plan::read::leads_to(p, belt) as u64);
-    let cost = put_number(room, to, b" cost ", plan::read::cost(p, belt));
+    let name = put_number(rt, room, gathered, b"belt ", belt.0 as u64);
+    let from = put_number(rt, room, name, b" from ", j as u64);
+    let to = put_number(
+        rt,
+        room,
+        from,
+        b" to ",
+        plan::read::leads_to(p, belt) as u64,
+    );
+    let cost = put_number(rt, room, to, b" cost ", plan::read::cost(p, belt));
     if let Place::At(k) = place {
-        let all = put_number(room, cost, b" place ", k as u64);
-        return put(room, all, b"\n");
+        let all = put_number(rt, room, cost, b" place ", k as u64);
+        return put(rt, room, all, b"\n");
     }
-    put(room, cost, b"\n")
+    put(rt, room, cost, b"\n")
 }
 
 // The belts that leave junction j, along its chain.
-fn put_leaving(
+fn put_leaving<R: Streams>(
+    rt: &R,
     room: &mut Room,
     gathered: Gathered,
     p: &[u8],
@@ -58,13 +71,13 @@ fn put_leaving(
     let mut now = gathered;
     let mut belt = plan::read::first_belt(p, j);
     while belt.0 != 0 {
-        now = put_belt(room, now, p, places, j, belt);
+        now = put_belt(rt, room, now, p, places, j, belt);
         belt = plan::read::next_belt(p, belt);
     }
     now
 }
 
-fn put_belts(room: &mut Room, gathered: Gathered, p: &[u8]) -> Gathered
+fn put_belts<R: Streams>(rt: &R, room: &mut Room, gathered: Gathered, p: &[u8]) -> Gathered
     requires { Accepted p.now }
 {
     let places = plan::named::named_places(p);
@@ -72,25 +85,38 @@ fn put_belts(room: &mut Room, gathered: Gathered, p: &[u8]) -> Gathered
     let mut now = gathered;
     let mut j = 1;
     while j <= last {
-        now = put_leaving(room, now, p, &places, j);
+        now = put_leaving(rt, room, now, p, &places, j);
         j += 1;
     }
     now
 }
 
 // What is wanted of a belt or a mode, and its number.
-fn put_wanted(room: &mut Room, gathered: Gathered, wanted: bool, kind: &[u8], n: u64) -> Gathered {
+fn put_wanted<R: Streams>(
+    rt: &R,
+    room: &mut Room,
+    gathered: Gathered,
+    wanted: bool,
+    kind: &[u8],
+    n: u64,
+) -> Gathered {
     if wanted {
-        return put_number(room, gathered, kind, n);
+        return put_number(rt, room, gathered, kind, n);
     }
-    let not = put(room, gathered, b" not");
-    put_number(room, not, kind, n)
+    let not = put(rt, room, gathered, b" not");
+    put_number(rt, room, not, kind, n)
 }
 
 // What a literal says.
-fn put_literal(room: &mut Room, gathered: Gathered, literal: Literal) -> Gathered {
+fn put_literal<R: Streams>(
+    rt: &R,
+    room: &mut Room,
+    gathered: Gathered,
+    literal: Literal,
+) -> Gathered {
     match literal {
         Literal::OfBelt(belt, wanted) => put_wanted(
+            rt,
             room,
             gathered,
             wanted,
@@ -98,6 +124,7 @@ fn put_literal(room: &mut Room, gathered: Gathered, literal: Literal) -> Gathere
             belt.0 as u64,
         ),
         Literal::OfMode(mode, wanted) => put_wanted(
+            rt,
             room,
             gathered,
             wanted,
@@ -108,140 +135,154 @@ fn put_literal(room: &mut Room, gathered: Gathered, literal: Literal) -> Gathere
 }
 
 // The literals of a chain; before every one behind the first stands `or`.
-fn put_literals(room: &mut Room, gathered: Gathered, p: &[u8], first: LiteralId) -> Gathered
+fn put_literals<R: Streams>(
+    rt: &R,
+    room: &mut Room,
+    gathered: Gathered,
+    p: &[u8],
+    first: LiteralId,
+) -> Gathered
     requires { Accepted p.now
         × ((first.0 ≡ 0 → ⊥) → IsLiteral p.now first.0) }
 {
     let mut now = gathered;
     let mut literal = first;
     while literal.0 != 0 {
-        now = put_literal(room, now, plan::read::literal_of(p, literal));
+        now = put_literal(rt, room, now, plan::read::literal_of(p, literal));
         literal = plan::read::next_literal(p, literal);
         if literal.0 != 0 {
-            now = put(room, now, b" or");
+            now = put(rt, room, now, b" or");
         }
     }
     now
 }
 
-fn put_rules(room: &mut Room, gathered: Gathered, p: &[u8]) -> Gathered
+fn put_rules<R: Streams>(rt: &R, room: &mut Room, gathered: Gathered, p: &[u8]) -> Gathered
     requires { Accepted p.now }
 {
     let mut now = gathered;
     let mut rule = plan::read::first_rule(p);
     while rule.0 != 0 {
-        let begun = put(room, now, b"rule");
-        let said = put_literals(room, begun, p, plan::read::first_literal(p, rule));
-        now = put(room, said, b"\n");
+        let begun = put(rt, room, now, b"rule");
+        let said = put_literals(rt, room, begun, p, plan::read::first_literal(p, rule));
+        now = put(rt, room, said, b"\n");
         rule = plan::read::next_rule(p, rule);
     }
     now
 }
 
-fn put_named(room: &mut Room, gathered: Gathered, p: &[u8]) -> Gathered
+fn put_named<R: Streams>(rt: &R, room: &mut Room, gathered: Gathered, p: &[u8]) -> Gathered
     requires { Accepted p.now }
 {
     let named = plan::named::named_belts(p);
     let belts = named.belts;
     let count = named.count;
-    let mut now = put(room, gathered, b"named");
+    let mut now = put(rt, room, gathered, b"named");
     let mut k = 0;
     while k < count {
         let belt = belts[k];
-        now = put_number(room, now, b" ", belt.0 as u64);
+        now = put_number(rt, room, now, b" ", belt.0 as u64);
         k += 1;
     }
-    put(room, now, b"\n")
+    put(rt, room, now, b"\n")
 }
 
 // How many junctions and modes there are.
-fn put_counts(room: &mut Room, gathered: Gathered, p: &[u8]) -> Gathered
+fn put_counts<R: Streams>(rt: &R, room: &mut Room, gathered: Gathered, p: &[u8]) -> Gathered
     requires { Accepted p.now }
 {
     let junctions = put_number(
+        rt,
         room,
         gathered,
         b"junctions ",
         plan::read::junctions(p) as u64,
     );
-    let modes = put_number(room, junctions, b" modes ", plan::read::modes(p) as u64);
-    put(room, modes, b"\n")
+    let modes = put_number(rt, room, junctions, b" modes ", plan::read::modes(p) as u64);
+    put(rt, room, modes, b"\n")
 }
 
 // An accepted plan, whole.
-fn put_plan(room: &mut Room, gathered: Gathered, p: &[u8]) -> Gathered
+fn put_plan<R: Streams>(rt: &R, room: &mut Room, gathered: Gathered, p: &[u8]) -> Gathered
     requires { Accepted p.now }
 {
-    let counts = put_counts(room, gathered, p);
-    let belts = put_belts(room, counts, p);
-    let rules = put_rules(room, belts, p);
-    put_named(room, rules, p)
+    let counts = put_counts(rt, room, gathered, p);
+    let belts = put_belts(rt, room, counts, p);
+    let rules = put_rules(rt, room, belts, p);
+    put_named(rt, room, rules, p)
 }
 
 // A plan that the check has given this number: refused with it, or whole.
-fn put_checked(room: &mut Room, gathered: Gathered, p: &[u8], number: u8) -> Gathered
+fn put_checked<R: Streams>(
+    rt: &R,
+    room: &mut Room,
+    gathered: Gathered,
+    p: &[u8],
+    number: u8,
+) -> Gathered
     requires { number ≡ refusal p.now }
 {
     if number == 0 {
-        return put_plan(room, gathered, p);
+        return put_plan(rt, room, gathered, p);
     }
-    let said = put_number(room, gathered, b"refused ", number as u64);
-    put(room, said, b"\n")
+    let said = put_number(rt, room, gathered, b"refused ", number as u64);
+    put(rt, room, said, b"\n")
 }
 
 // Any bytes: refused with a number, or shown.
-fn show(p: &[u8]) {
+fn show<R: Streams>(rt: &R, p: &[u8]) {
     let verdict = plan::check::check(p);
-    let mut room = io::large_buffer();
+    let mut room = [0u8; 65536];
     let gathered = put_checked(
+        rt,
         &mut room,
         output::nothing(),
         p,
         plan::check::number(verdict),
     );
-    output::finish(&room, gathered);
+    output::finish(rt, &room, gathered);
     if let Verdict::Refused(r) = verdict {
-        refusals::tell_cause(r);
+        refusals::tell_cause(rt, r);
     }
 }
 
 // Shows the plan of this name.
-fn show_file(name: &[u8]) {
+fn show_file<R: Files + Input + Streams>(rt: &R, name: &[u8]) {
     // Larger than any plan, so that a byte too many is seen.
-    let mut p = io::large_buffer();
-    let contents = files::read(name, &mut p);
+    let mut p = [0u8; 65536];
+    let contents = files::read(rt, name, &mut p);
     let n = contents.size;
     if contents.read {
-        show(&p[..n]);
+        show(rt, &p[..n]);
     }
 }
 
 // Does what the arguments ask. False where they are wrong.
-fn run() -> bool {
-    if !arguments::at_most(1) {
+fn run<R: Env + Files + Input + Streams>(rt: &R) -> bool {
+    if !arguments::at_most(rt, 1) {
         return false;
     }
-    if !arguments::given(1) {
-        show_file(b"-");
+    if !arguments::given(rt, 1) {
+        show_file(rt, b"-");
         return true;
     }
-    let mut name = io::buffer();
-    let n = arguments::input(1, b"PLAN", &mut name);
+    let mut name = [0u8; 4096];
+    let n = arguments::input(rt, 1, b"PLAN", &mut name);
     if n == 0 {
         return false;
     }
-    show_file(&name[..n]);
+    show_file(rt, &name[..n]);
     true
 }
 
-fn main() {
-    let request = arguments::requested();
+fn main(rt: HostRuntime) {
+    let request = arguments::requested(&rt);
     match request {
-        Request::Usage => usage::print(),
-        Request::Version => version::print(b"show_plan"),
+        Request::Usage => usage::print(&rt),
+        Request::Version => version::print(&rt, b"show_plan"),
         Request::Work => {
-            if !run() {
-                arguments::hint(b"show_plan");
+            if !run(&rt) {
+                arguments::hint(&rt, b"show_plan");
             }
         }
     }

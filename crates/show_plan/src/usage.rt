@@ -1,8 +1,11 @@
 // How the program is used, in words.
 
+use output::Streams;
+
 // Prints how the program is used.
-pub fn print() {
+pub fn print<R: Streams>(rt: &R) {
     output::print(
+        rt,
         b"usage: show_plan [PLAN]
 Shows a depot plan in words.
   PLAN   the file that holds the plan; - or none is standard input
