@@ -7,7 +7,7 @@ use crate::records::Bytes;
 use plan::bounds::FIELD_LIMIT;
 
 // The next number of a line, and where the text goes on behind it. Where a sign comes first there is none, and `next` is the sign's place.
-#[derive(Drop)]
+#[derive(Clone, Copy)]
 pub struct Number {
     pub found: bool,
     pub value: u64,

@@ -7,7 +7,7 @@ use crate::lines;
 use crate::records::{Bytes, CASE_BYTES, put};
 
 // Where a plan starts from.
-#[derive(Drop)]
+#[derive(Clone, Copy)]
 pub enum Base {
     // Plan P of the paper.
     P,
@@ -18,7 +18,7 @@ pub enum Base {
 }
 
 // A plan: the first `size` bytes.
-#[derive(Drop)]
+#[derive(Clone, Copy)]
 pub struct Plan {
     pub bytes: Bytes,
     pub size: usize,

@@ -3,8 +3,9 @@ use crate::plans::Base;
 use crate::script::cases;
 
 // Kinds at places where they may not stand.
-fn kinds() {
+fn kinds(rt: &impl Print) {
     cases(
+        rt,
         Base::P,
         b"junction-3-kind-0 120 | 3: 0 0 0 0 0 0\n\
           junction-3-kind-2 120 | 3: 2 0 3 0 0 0\n\
@@ -20,12 +21,13 @@ fn kinds() {
           record-9-kind-7 120 | 9: 7 0 0 0 6 0\n\
           record-9-kind-8 120 | 9: 8 0 0 0 6 0\n\
           record-9-kind-260 120 | 9: 260 0 0 0 6 0\n",
-    );
+    )
 }
 
 // Fields that have to be zero.
-fn zeros() {
+fn zeros(rt: &impl Print) {
     cases(
+        rt,
         Base::P,
         b"junction-f2 120 | 1: 1 4 1 0 0 0\n\
           junction-f3 120 | 2: 1 6 0 1 0 0\n\
@@ -39,12 +41,13 @@ fn zeros() {
           rule-f5 120 | 7: 3 0 8 0 0 1\n\
           literal-f5 120 | 9: 4 0 0 0 6 1\n\
           literal-f5-256 120 | 9: 4 0 0 0 6 256\n",
-    );
+    )
 }
 
 // Fields with a range, and a belt's cost, which has none.
-fn ranges() {
+fn ranges(rt: &impl Print) {
     cases(
+        rt,
         Base::P,
         b"belt-to-0 120 | 6: 2 0 0 4 0 0\n\
           belt-to-4 120 | 6: 2 0 4 4 0 0\n\
@@ -59,11 +62,11 @@ fn ranges() {
           literal-f2-256 120 | 9: 4 0 256 0 6 0\n\
           literal-f3-2 120 | 9: 4 0 0 2 6 0\n\
           literal-f3-257 120 | 9: 4 0 0 257 1 0\n",
-    );
+    )
 }
 
-pub fn run() {
-    kinds();
-    zeros();
-    ranges();
+pub fn run(rt: &impl Print) {
+    kinds(rt);
+    zeros(rt);
+    ranges(rt)
 }

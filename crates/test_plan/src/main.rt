@@ -8,6 +8,8 @@
 //   links     cases of line 4
 //   names     cases of lines 5 to 7
 //   several   plans that break several lines
+#![tactic(auto)]
+
 mod fields;
 mod links;
 mod names;
@@ -16,10 +18,10 @@ mod script;
 mod several;
 mod sizes;
 
-fn main() {
-    sizes::run();
-    fields::run();
-    links::run();
-    names::run();
-    several::run();
+fn main(rt: HostRuntime) {
+    sizes::run(&rt);
+    fields::run(&rt);
+    links::run(&rt);
+    names::run(&rt);
+    several::run(&rt)
 }

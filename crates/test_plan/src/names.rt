@@ -3,8 +3,9 @@ use crate::plans::Base;
 use crate::script::cases;
 
 // Belts that do not rise; belt 6 also after it is moved to junction 3 and 1.
-fn belts() {
+fn belts(rt: &impl Print) {
     cases(
+        rt,
         Base::P,
         b"belt-6-to-own-2 120 | 6: 2 0 2 4 0 0\n\
           belt-6-to-lower-1 120 | 6: 2 0 1 4 0 0\n\
@@ -13,13 +14,14 @@ fn belts() {
           belt-6-from-3-to-3 120 | 2: 1 0 0 0 0 0; 3: 1 6 0 0 0 0\n\
           belt-6-from-1-to-2 120 | 2: 1 0 0 0 0 0; 5: 2 6 3 9 0 0; 6: 2 0 2 4 0 0\n\
           belt-6-from-1-to-1 120 | 2: 1 0 0 0 0 0; 5: 2 6 3 9 0 0; 6: 2 0 1 4 0 0\n",
-    );
+    )
 }
 
 // Another literal 9, a belt's and then a mode's. Belt 10 stands behind the plan.
 // Last, the literal that stands first in the shuffled plan.
-fn literals() {
+fn literals(rt: &impl Print) {
     cases(
+        rt,
         Base::P,
         b"names-record-0 120 | 9: 4 0 0 0 0 0\n\
           names-a-junction 120 | 9: 4 0 0 0 3 0\n\
@@ -36,14 +38,16 @@ fn literals() {
           mode-257-of-1 120 | 9: 4 0 0 1 257 0\n",
     );
     cases(
+        rt,
         Base::Shuffled,
         b"first-literal-names-0 120 | 5: 4 6 0 0 0 0\n",
-    );
+    )
 }
 
 // Literal 9 names a mode, in a plan of other modes than P's one.
-fn modes() {
+fn modes(rt: &impl Print) {
     cases(
+        rt,
         Base::P,
         b"mode-0-of-0 120 | 0: 7 3 0 7 10 0; 9: 4 0 0 1 0 0\n\
           mode-1-of-0 120 | 0: 7 3 0 7 10 0; 9: 4 0 0 1 1 0\n\
@@ -51,14 +55,15 @@ fn modes() {
           mode-10-of-9 120 | 0: 7 3 9 7 10 0; 9: 4 0 1 1 10 0\n\
           mode-10-of-10 120 | 0: 7 3 10 7 10 0; 9: 4 0 0 1 10 0\n\
           mode-11-of-10 120 | 0: 7 3 10 7 10 0; 9: 4 0 0 1 11 0\n",
-    );
+    )
 }
 
 // Literals 54 to 101 are 48. The literal behind them is changed; then the literals from 78 on are in a second rule.
-fn named() {
-    cases(Base::Named(101), b"48-named 1224\n");
-    cases(Base::Named(103), b"50-named 1248\n");
+fn named(rt: &impl Print) {
+    cases(rt, Base::Named(101), b"48-named 1224\n");
+    cases(rt, Base::Named(103), b"50-named 1248\n");
     cases(
+        rt,
         Base::Named(102),
         b"49-named 1236\n\
           49-named-one-wanted 1236 | 102: 4 0 1 0 51 0\n\
@@ -67,12 +72,12 @@ fn named() {
           48-named-and-a-mode 1236 | 102: 4 0 0 1 1 0\n\
           49-named-by-two-rules 1236 | 0: 7 2 1 52 103 0; 51: 2 0 2 1 0 0; 52: 3 53 54 0 0 0; 53: 3 0 78 0 0 0; 77: 4 0 0 0 26 0\n\
           48-named-by-two-rules 1236 | 0: 7 2 1 52 103 0; 51: 2 0 2 1 0 0; 52: 3 53 54 0 0 0; 53: 3 0 78 0 0 0; 77: 4 0 0 0 26 0; 78: 4 79 0 0 26 0\n",
-    );
+    )
 }
 
-pub fn run() {
-    belts();
-    literals();
-    modes();
-    named();
+pub fn run(rt: &impl Print) {
+    belts(rt);
+    literals(rt);
+    modes(rt);
+    named(rt)
 }

@@ -4,7 +4,7 @@ use test_cases::plans::put_p;
 use test_cases::records::{Bytes, put};
 
 // Where a case starts from.
-#[derive(Drop)]
+#[derive(Clone, Copy)]
 pub enum Base {
     // Plan P of the paper.
     P,

@@ -6,6 +6,7 @@ ghost use Rattle.plan.specs.Reading.{Accepted};
 ghost use Rattle.route.specs.Routes.{wrong_ends};
 ghost use Rattle.route.specs.Values.{OfNamed, named_places};
 
+use output::Streams;
 use plan::bounds::{MAX_NAMED, MAX_RECORDS, MAX_STEPS};
 use plan::named::Place;
 use plan::read::BeltId;
@@ -15,10 +16,10 @@ use route::path::Trip;
 use route::relax::{Fixings, Summary, WAYS};
 use test_cases::lines;
 use test_cases::plans::Plan;
-use test_cases::print::print_number;
+use test_cases::print::{print_number, print_words};
 
 // Belts as a mask over the named belts, and whether all of them are named.
-#[derive(Drop)]
+#[derive(Clone, Copy)]
 struct Mask {
     named: bool,
     bits: u64,
@@ -76,21 +77,21 @@ fn within(mask: Mask, end: usize) -> bool
 }
 
 // Prints a summary, and the belts of its route, whose numbers are in `walked`.
-fn print_relaxed(summary: Summary, walked: &[u16; MAX_STEPS])
+fn print_relaxed(rt: &impl Streams, summary: Summary, walked: &[u16; MAX_STEPS])
     requires { length walked.now ≡ max_steps }
 {
     if route::relax::UNBOUNDED < summary.cost {
-        io::write_all(1, b" none");
+        print_words(rt, b" none");
         return;
     }
-    print_number(b" ", summary.cost);
+    print_number(rt, b" ", summary.cost);
     if summary.count <= MAX_STEPS {
-        listing::print_belts(route::path::of_belts(walked, summary.count));
+        listing::print_belts(rt, route::path::of_belts(walked, summary.count));
     }
 }
 
 // Prints the relaxed route of a subproblem, over what is made of the plan for it.
-fn print_over(p: &[u8], places: &[u8; MAX_RECORDS], trip: Trip, fixings: Fixings)
+fn print_over(rt: &impl Streams, p: &[u8], places: &[u8; MAX_RECORDS], trip: Trip, fixings: Fixings)
     requires { Accepted p.now
         × (places.now ≡ named_places p.now)
         × (wrong_ends (plan_of p.now) trip.s trip.t ≡ false)
@@ -111,12 +112,19 @@ fn print_over(p: &[u8], places: &[u8; MAX_RECORDS], trip: Trip, fixings: Fixings
         &mut ways,
         &mut walked,
     );
-    print_relaxed(summary, &walked);
+    print_relaxed(rt, summary, &walked)
 }
 
 // The relaxed route between two junctions of an accepted plan. The places of named belts are below their count, so no mask of theirs goes
 // beyond it.
-fn print_fixed(p: &[u8], places: &[u8; MAX_RECORDS], trip: Trip, required: Mask, forbidden: Mask)
+fn print_fixed(
+    rt: &impl Streams,
+    p: &[u8],
+    places: &[u8; MAX_RECORDS],
+    trip: Trip,
+    required: Mask,
+    forbidden: Mask,
+)
     requires { Accepted p.now
         × (places.now ≡ named_places p.now)
         × (wrong_ends (plan_of p.now) trip.s trip.t ≡ false) }
@@ -127,54 +135,53 @@ fn print_fixed(p: &[u8], places: &[u8; MAX_RECORDS], trip: Trip, required: Mask,
             required: required.bits,
             forbidden: forbidden.bits,
         };
-        print_over(p, places, trip, fixings);
-        return;
+        return print_over(rt, p, places, trip, fixings);
     }
-    io::write_all(1, b" not named");
+    print_words(rt, b" not named");
 }
 
 // The same, with the fixings that the text has behind `at`.
-fn print_route(p: &[u8], trip: Trip, text: &[u8], at: usize)
+fn print_route(rt: &impl Streams, p: &[u8], trip: Trip, text: &[u8], at: usize)
     requires { Accepted p.now
         × (wrong_ends (plan_of p.now) trip.s trip.t ≡ false) }
 {
     let places = plan::named::named_places(p);
     let required = mask_of(&places, text, lines::behind(text, at, b'+'));
     let forbidden = mask_of(&places, text, lines::behind(text, at, b'-'));
-    print_fixed(p, &places, trip, required, forbidden);
+    print_fixed(rt, p, &places, trip, required, forbidden)
 }
 
 // The same, where s and t may be any numbers.
-fn print_ends(p: &[u8], trip: Trip, text: &[u8], at: usize)
+fn print_ends(rt: &impl Streams, p: &[u8], trip: Trip, text: &[u8], at: usize)
     requires { Accepted p.now }
 {
     if route::path::wrong_ends(p, trip) {
-        io::write_all(1, b" refused 8");
+        print_words(rt, b" refused 8");
         return;
     }
-    print_route(p, trip, text, at);
+    print_route(rt, p, trip, text, at)
 }
 
 // The same, where the plan may be any bytes.
-fn print_answer(p: &[u8], trip: Trip, text: &[u8], at: usize) {
+fn print_answer(rt: &impl Streams, p: &[u8], trip: Trip, text: &[u8], at: usize) {
     let number = plan::check::number(plan::check::check(p));
     if number == 0 {
-        print_ends(p, trip, text, at);
+        print_ends(rt, p, trip, text, at)
     } else {
-        print_number(b" refused ", number as u64);
+        print_number(rt, b" refused ", number as u64);
     }
 }
 
 // The same of the first n bytes; nothing where there are fewer.
-fn print_part(bytes: &[u8], n: usize, trip: Trip, text: &[u8], at: usize) {
+fn print_part(rt: &impl Streams, bytes: &[u8], n: usize, trip: Trip, text: &[u8], at: usize) {
     if n <= bytes.len() {
-        print_answer(&bytes[..n], trip, text, at);
+        print_answer(rt, &bytes[..n], trip, text, at);
     }
 }
 
 // Prints the answer to a case whose fixings the text has behind `at`, and ends the line.
-pub fn answer(plan: Plan, trip: Trip, text: &[u8], at: usize) {
+pub fn answer(rt: &impl Streams, plan: Plan, trip: Trip, text: &[u8], at: usize) {
     let bytes = plan.bytes;
-    print_part(&bytes, plan.size, trip, text, at);
-    io::write_all(1, b"\n");
+    print_part(rt, &bytes, plan.size, trip, text, at);
+    print_words(rt, b"\n");
 }

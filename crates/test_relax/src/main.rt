@@ -4,11 +4,15 @@
 //
 //   script    the lines of the input: remarks, plans and cases
 //   answers   what is printed of a case
+#![tactic(auto)]
+
 mod answers;
 mod script;
 
-fn main() {
-    let mut buf = io::large_buffer();
-    let n = io::read_full(0, &mut buf);
-    script::run(&buf[..n]);
+use test_cases::input;
+
+fn main(rt: HostRuntime) {
+    let mut buf = [0u8; 65536];
+    let n = input::read_full(&rt, &mut buf);
+    script::run(&rt, &buf[..n])
 }

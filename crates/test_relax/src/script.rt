@@ -8,6 +8,7 @@
 //
 // A record is an index and six fields.
 use crate::answers;
+use output::Streams;
 use route::path;
 use route::path::Trip;
 use test_cases::plans::Plan;
@@ -15,8 +16,8 @@ use test_cases::print::print_name;
 use test_cases::{lines, plans};
 
 // Runs the case whose line begins at `at`.
-fn case(plan: Plan, text: &[u8], at: usize) {
-    let name_end = print_name(text, at);
+fn case(rt: &impl Streams, plan: Plan, text: &[u8], at: usize) {
+    let name_end = print_name(rt, text, at);
     let s = lines::next_number(text, name_end);
     let t = lines::next_number(text, s.next);
     let trip = Trip {
@@ -24,11 +25,11 @@ fn case(plan: Plan, text: &[u8], at: usize) {
         t: t.value,
         lock: path::no_lock(),
     };
-    answers::answer(plan, trip, text, t.next);
+    answers::answer(rt, plan, trip, text, t.next)
 }
 
 // The plan behind the line that begins at `at`; a case is run.
-fn stepped(plan: Plan, text: &[u8], at: usize) -> Plan {
+fn stepped(rt: &impl Streams, plan: Plan, text: &[u8], at: usize) -> Plan {
     let mark = lines::byte_at(text, at, 0);
     if mark == b'=' {
         return plans::read(text, at);
@@ -37,17 +38,17 @@ fn stepped(plan: Plan, text: &[u8], at: usize) -> Plan {
         return plans::changed(plan, text, at);
     }
     if mark != b'#' && mark != b'\n' {
-        case(plan, text, at);
+        case(rt, plan, text, at);
     }
     plan
 }
 
 // Runs the lines, one after the other.
-pub fn run(text: &[u8]) {
+pub fn run(rt: &impl Streams, text: &[u8]) {
     let mut plan = plans::none();
     let mut at = 0;
     while at < text.len() {
-        plan = stepped(plan, text, at);
+        plan = stepped(rt, plan, text, at);
         at = lines::next_line(text, at);
     }
 }

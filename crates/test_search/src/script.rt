@@ -12,6 +12,7 @@
 //
 // A record is an index and six fields.
 use crate::answers;
+use output::Streams;
 use route::path::{Lock, Trip};
 use search::query::Query;
 use test_cases::plans::Plan;
@@ -29,10 +30,9 @@ fn lock_of(text: &[u8], at: usize) -> Lock {
 }
 
 // The case behind the name that ends at `at`.
-fn case(p: &[u8], text: &[u8], at: usize) {
+fn case(rt: &impl Streams, p: &[u8], text: &[u8], at: usize) {
     if lines::byte_at(text, at, 1) == b'!' {
-        answers::print_listing(p);
-        return;
+        return answers::print_listing(rt, p);
     }
     let s = lines::next_number(text, at);
     let t = lines::next_number(text, s.next);
@@ -43,8 +43,7 @@ fn case(p: &[u8], text: &[u8], at: usize) {
     };
     if lines::byte_at(text, t.next, 1) == b'*' {
         let budgets = lines::next_number(text, lines::behind(text, t.next, b'*'));
-        answers::print_all(p, trip, budgets.value);
-        return;
+        return answers::print_all(rt, p, trip, budgets.value);
     }
     let pick = lines::next_number(text, t.next);
     let order = lines::next_number(text, pick.next);
@@ -56,25 +55,25 @@ fn case(p: &[u8], text: &[u8], at: usize) {
         order: order.value,
         budget: budget.value,
     };
-    answers::print_one(p, query, room);
+    answers::print_one(rt, p, query, room)
 }
 
 // The same of the first n bytes; nothing where there are fewer.
-fn case_of(bytes: &[u8], n: usize, text: &[u8], at: usize) {
+fn case_of(rt: &impl Streams, bytes: &[u8], n: usize, text: &[u8], at: usize) {
     if n <= bytes.len() {
-        case(&bytes[..n], text, at);
+        case(rt, &bytes[..n], text, at);
     }
 }
 
 // Runs the case whose line begins at `at`.
-fn run_case(plan: Plan, text: &[u8], at: usize) {
+fn run_case(rt: &impl Streams, plan: Plan, text: &[u8], at: usize) {
     let bytes = plan.bytes;
-    let name_end = print_name(text, at);
-    case_of(&bytes, plan.size, text, name_end);
+    let name_end = print_name(rt, text, at);
+    case_of(rt, &bytes, plan.size, text, name_end)
 }
 
 // The plan behind the line that begins at `at`; a case is run.
-fn stepped(plan: Plan, text: &[u8], at: usize) -> Plan {
+fn stepped(rt: &impl Streams, plan: Plan, text: &[u8], at: usize) -> Plan {
     let mark = lines::byte_at(text, at, 0);
     if mark == b'=' {
         return plans::read(text, at);
@@ -83,17 +82,17 @@ fn stepped(plan: Plan, text: &[u8], at: usize) -> Plan {
         return plans::changed(plan, text, at);
     }
     if mark != b'#' && mark != b'\n' {
-        run_case(plan, text, at);
+        run_case(rt, plan, text, at);
     }
     plan
 }
 
 // Runs the lines, one after the other.
-pub fn run(text: &[u8]) {
+pub fn run(rt: &impl Streams, text: &[u8]) {
     let mut plan = plans::none();
     let mut at = 0;
     while at < text.len() {
-        plan = stepped(plan, text, at);
+        plan = stepped(rt, plan, text, at);
         at = lines::next_line(text, at);
     }
 }

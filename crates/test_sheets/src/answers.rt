@@ -12,11 +12,11 @@ use route::modes::Lowest;
 use route::path::{Route, Trip};
 use route::sheet::Sheet;
 use test_cases::plans::Plan;
-use test_cases::print::print_number;
+use test_cases::print::{print_number, print_words};
 use test_cases::records::Bytes;
 
 // What is printed.
-#[derive(Drop)]
+#[derive(Clone, Copy)]
 pub enum Asked {
     Number,
     Lowest,
@@ -44,40 +44,40 @@ fn kept(out: &[u8], n: usize) -> bool {
 }
 
 // Prints the bytes, but 48 at most.
-fn print_bytes(bytes: &[u8]) {
-    io::write_all(1, b" bytes");
+fn print_bytes(rt: &impl Print, bytes: &[u8]) {
+    print_words(rt, b" bytes");
     let mut i = 0;
     while i < bytes.len() {
         if 48 <= i {
             return;
         }
-        print_number(b" ", wide(bytes[i]));
+        print_number(rt, b" ", wide(bytes[i]));
         i += 1;
     }
 }
 
 // Prints the sheet in the first n bytes, what the check answers to it, and whether the bytes behind it are as they were.
-fn print_sheet(p: &[u8], trip: Trip, out: &[u8], n: usize) {
+fn print_sheet(rt: &impl Print, p: &[u8], trip: Trip, out: &[u8], n: usize) {
     if n <= out.len() {
-        print_number(b" length ", n as u64);
-        print_number(b" check ", wide(number(p, trip, &out[..n])));
+        print_number(rt, b" length ", n as u64);
+        print_number(rt, b" check ", wide(number(p, trip, &out[..n])));
         if kept(out, n) {
-            io::write_all(1, b" guard kept");
+            print_words(rt, b" guard kept");
         } else {
-            io::write_all(1, b" guard changed");
+            print_words(rt, b" guard changed");
         }
-        print_bytes(&out[..n]);
+        print_bytes(rt, &out[..n]);
     }
 }
 
 // Writes a sheet into bytes that are 170, more than it takes.
-fn print_written(p: &[u8], trip: Trip, sheet: Sheet)
+fn print_written(rt: &impl Print, p: &[u8], trip: Trip, sheet: Sheet)
     requires { (sheet.route.count ≤ max_steps)
         × (sheet.cost < cost_limit) }
 {
     let mut out = [170u8; 3100];
     let n = route::sheet::write(&mut out, sheet);
-    print_sheet(p, trip, &out, n);
+    print_sheet(rt, p, trip, &out, n)
 }
 
 // The lowest setting of a route for a trip.
@@ -94,7 +94,7 @@ fn lowest_of(p: &[u8], trip: Trip, r: Route) -> Lowest
 }
 
 // The lowest setting of a route, and its sheet.
-fn print_setting(p: &[u8], trip: Trip, r: Route)
+fn print_setting(rt: &impl Print, p: &[u8], trip: Trip, r: Route)
     requires { Accepted p.now
         × Known p.now r
         × (wrong_lock (plan_of p.now) trip.lock ≡ false) }
@@ -102,9 +102,10 @@ fn print_setting(p: &[u8], trip: Trip, r: Route)
     let lowest = lowest_of(p, trip, r);
     match lowest {
         Lowest::Works(setting) => {
-            print_number(b" setting ", setting as u64);
+            print_number(rt, b" setting ", setting as u64);
             let cost = route::path::cost(p, r);
             print_written(
+                rt,
                 p,
                 trip,
                 Sheet {
@@ -112,66 +113,72 @@ fn print_setting(p: &[u8], trip: Trip, r: Route)
                     cost: cost,
                     setting: setting,
                 },
-            );
+            )
         }
-        Lowest::Nothing => {
-            io::write_all(1, b" no setting");
-        }
+        Lowest::Nothing => print_words(rt, b" no setting"),
     }
 }
 
 // The same, where the belts and the locked modes are the plan's.
-fn print_belts(p: &[u8], trip: Trip, r: Route)
+fn print_belts(rt: &impl Print, p: &[u8], trip: Trip, r: Route)
     requires { Accepted p.now
         × (r.count ≤ max_steps) }
 {
     if !route::path::are_belts(p, r) {
-        io::write_all(1, b" no belts");
+        print_words(rt, b" no belts");
         return;
     }
     if route::path::wrong_lock(p, trip.lock) {
-        io::write_all(1, b" no lock");
+        print_words(rt, b" no lock");
         return;
     }
-    print_setting(p, trip, r);
+    print_setting(rt, p, trip, r)
 }
 
 // The same of the route that a sheet has, where the plan is accepted and the sheet is in the form.
-fn print_route(p: &[u8], trip: Trip, h: &[u8]) {
+fn print_route(rt: &impl Print, p: &[u8], trip: Trip, h: &[u8]) {
     if plan::check::number(plan::check::check(p)) != 0 {
-        io::write_all(1, b" no plan");
+        print_words(rt, b" no plan");
         return;
     }
     if !route::sheet::in_form(h) {
-        io::write_all(1, b" no sheet");
+        print_words(rt, b" no sheet");
         return;
     }
     let sheet = route::sheet::read(h);
     let r = sheet.route;
     if r.count <= MAX_STEPS {
-        print_belts(p, trip, r);
+        print_belts(rt, p, trip, r);
     }
 }
 
-fn print_answer(asked: Asked, p: &[u8], trip: Trip, h: &[u8]) {
+fn print_answer(rt: &impl Print, asked: Asked, p: &[u8], trip: Trip, h: &[u8]) {
     match asked {
-        Asked::Number => print_number(b" ", wide(number(p, trip, h))),
-        Asked::Lowest => print_route(p, trip, h),
+        Asked::Number => print_number(rt, b" ", wide(number(p, trip, h))),
+        Asked::Lowest => print_route(rt, p, trip, h),
     }
 }
 
 // Prints what is asked of the first n bytes of the plan and the first m of the sheet; nothing where there are fewer.
-fn print_parts(asked: Asked, plan: &[u8], n: usize, trip: Trip, sheet: &[u8], m: usize) {
+fn print_parts(
+    rt: &impl Print,
+    asked: Asked,
+    plan: &[u8],
+    n: usize,
+    trip: Trip,
+    sheet: &[u8],
+    m: usize,
+) {
     if n <= plan.len() {
         if m <= sheet.len() {
-            print_answer(asked, &plan[..n], trip, &sheet[..m]);
+            print_answer(rt, asked, &plan[..n], trip, &sheet[..m]);
         }
     }
 }
 
 // Prints what is asked of a case, whose sheet has m bytes, and ends the line.
-pub fn answer(asked: Asked, plan: Plan, trip: Trip, sheet: &Bytes, m: usize) {
+pub fn answer(rt: &impl Print, asked: Asked, plan: Plan, trip: Trip, sheet: &Bytes, m: usize) {
     let bytes = plan.bytes;
-    print_parts(asked, &bytes, plan.size, trip, sheet, m);
-    io::write_all(1, b"\n");
+    print_parts(rt, asked, &bytes, plan.size, trip, sheet, m);
+    print_words(rt, b"\n");
 }

@@ -20,7 +20,7 @@ use test_cases::records::{Bytes, CASE_BYTES};
 use test_cases::{lines, plans, records};
 
 // What the lines so far say: the plan at hand, where it starts from, and what is asked of its cases.
-#[derive(Drop)]
+#[derive(Clone, Copy)]
 struct State {
     asked: Asked,
     base: Base,
@@ -69,13 +69,13 @@ fn lock_of(text: &[u8], at: usize) -> Lock {
 }
 
 // Runs the case whose line begins at `at`.
-fn case(state: State, text: &[u8], at: usize) {
+fn case(rt: &impl Print, state: State, text: &[u8], at: usize) {
     let asked = state.asked;
     let base = state.base;
     let plan = state.plan;
     let mut sheet = [0u8; CASE_BYTES];
     sheets::put_sheet(&mut sheet, base);
-    let name_end = print_name(text, at);
+    let name_end = print_name(rt, text, at);
     let s = lines::next_number(text, name_end);
     let t = lines::next_number(text, s.next);
     let cost = lines::next_number(text, t.next);
@@ -95,7 +95,7 @@ fn case(state: State, text: &[u8], at: usize) {
         t: t.value,
         lock: lock_of(text, t.next),
     };
-    answers::answer(asked, plan, trip, &sheet, size);
+    answers::answer(rt, asked, plan, trip, &sheet, size)
 }
 
 // What the mark of a plan asks for.
@@ -107,7 +107,7 @@ fn asked_by(mark: u8) -> Asked {
 }
 
 // What the line that begins at `at` changes; a case is run.
-fn stepped(state: State, text: &[u8], at: usize) -> State {
+fn stepped(rt: &impl Print, state: State, text: &[u8], at: usize) -> State {
     let mark = lines::byte_at(text, at, 0);
     if mark == b'=' || mark == b'?' {
         let plan = plans::read(text, at);
@@ -118,13 +118,13 @@ fn stepped(state: State, text: &[u8], at: usize) -> State {
         };
     }
     if mark != b'#' && mark != b'\n' {
-        case(state, text, at);
+        case(rt, state, text, at);
     }
     state
 }
 
 // Runs the lines, one after the other.
-pub fn run(text: &[u8]) {
+pub fn run(rt: &impl Print, text: &[u8]) {
     let plan = plans::none();
     let mut state = State {
         asked: Asked::Number,
@@ -133,7 +133,7 @@ pub fn run(text: &[u8]) {
     };
     let mut at = 0;
     while at < text.len() {
-        state = stepped(state, text, at);
+        state = stepped(rt, state, text, at);
         at = lines::next_line(text, at);
     }
 }
