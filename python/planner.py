@@ -1,6 +1,6 @@
 """The depot route planner, called from Python.
 
-The module calls a shared library, which gcc makes of the static library that `rt staticlib planner` writes:
+The module calls a shared library, which gcc makes of the static library that `tools/build planner` writes:
 
     gcc -shared -o target/libplanner.so -Wl,--whole-archive target/staticlib/libplanner.a -Wl,--no-whole-archive
 
