@@ -185,19 +185,25 @@ pub fn print_query<R: Streams>(rt: &R, trip: Trip, answer: Answer, out: &[u8]) {
     output::finish(rt, &room, gathered);
 }
 
+// The arrays of a prepared plan (search::prepare).
+#[derive(Clone, Copy)]
+struct Arrays<'a> {
+    words: &'a [u64],
+    numbers: &'a [u16; NUMBERS],
+    places: &'a [u8; MAX_RECORDS],
+    clauses: &'a [u32],
+}
+
 // The line from s to t of a prepared plan (search::prepare): pick 0, order 0, budget 1,000,000.
 fn put_pair<R: Streams>(
     rt: &R,
     room: &mut Room,
     gathered: Gathered,
-    words: &[u64],
-    numbers: &[u16; NUMBERS],
-    places: &[u8; MAX_RECORDS],
-    clauses: &[u32],
+    plan: Arrays,
     trip: Trip,
 ) -> Gathered
     requires { (b : List ℕ)
-        × Prepared b words.now numbers.now places.now clauses.now
+        × Prepared b plan.words.now plan.numbers.now plan.places.now plan.clauses.now
         × (wrong_ends (plan_of b) trip.s trip.t ≡ false)
         × (wrong_lock (plan_of b) trip.lock ≡ false) }
 {
@@ -208,7 +214,14 @@ fn put_pair<R: Streams>(
         budget: 1000000,
     };
     let mut out = [0u8; MAX_SHEET_BYTES];
-    let answer = entry::find(words, numbers, places, clauses, query, &mut out);
+    let answer = entry::find(
+        plan.words,
+        plan.numbers,
+        plan.places,
+        plan.clauses,
+        query,
+        &mut out,
+    );
     put_query(rt, room, gathered, trip, answer, &out)
 }
 
@@ -217,15 +230,12 @@ fn put_from<R: Streams>(
     rt: &R,
     room: &mut Room,
     gathered: Gathered,
-    words: &[u64],
-    numbers: &[u16; NUMBERS],
-    places: &[u8; MAX_RECORDS],
-    clauses: &[u32],
+    plan: Arrays,
     s: u64,
     last: u64,
 ) -> Gathered
     requires { ((b : List ℕ)
-        × Prepared b words.now numbers.now places.now clauses.now
+        × Prepared b plan.words.now plan.numbers.now plan.places.now plan.clauses.now
         × (last ≡ (plan_of b).junctions))
         × (1 ≤ s) }
 {
@@ -233,20 +243,12 @@ fn put_from<R: Streams>(
     let mut t = s;
     while t < last {
         t += 1;
-        now = put_pair(
-            rt,
-            room,
-            now,
-            words,
-            numbers,
-            places,
-            clauses,
-            Trip {
-                s: s,
-                t: t,
-                lock: path::no_lock(),
-            },
-        );
+        let trip = Trip {
+            s: s,
+            t: t,
+            lock: path::no_lock(),
+        };
+        now = put_pair(rt, room, now, plan, trip);
     }
     now
 }
@@ -256,20 +258,17 @@ fn put_all<R: Streams>(
     rt: &R,
     room: &mut Room,
     gathered: Gathered,
-    words: &[u64],
-    numbers: &[u16; NUMBERS],
-    places: &[u8; MAX_RECORDS],
-    clauses: &[u32],
+    plan: Arrays,
     last: u64,
 ) -> Gathered
     requires { (b : List ℕ)
-        × Prepared b words.now numbers.now places.now clauses.now
+        × Prepared b plan.words.now plan.numbers.now plan.places.now plan.clauses.now
         × (last ≡ (plan_of b).junctions) }
 {
     let mut now = gathered;
     let mut s = 1;
     while s < last {
-        now = put_from(rt, room, now, words, numbers, places, clauses, s, last);
+        now = put_from(rt, room, now, plan, s, last);
         s += 1;
     }
     now
@@ -285,9 +284,13 @@ fn put_lines<R: Streams>(rt: &R, room: &mut Room, gathered: Gathered, p: &[u8]) 
     let mut clauses = [0u32; MAX_RECORDS];
     prepare::prepare(p, &mut words, &mut numbers, &mut places, &mut clauses);
     let last = read::junctions(p) as u64;
-    put_all(
-        rt, room, gathered, &words, &numbers, &places, &clauses, last,
-    )
+    let plan = Arrays {
+        words: &words,
+        numbers: &numbers,
+        places: &places,
+        clauses: &clauses,
+    };
+    put_all(rt, room, gathered, plan, last)
 }
 
 // Gathers the listing of a plan that the check has given this number.
