@@ -1,5 +1,5 @@
 // Names of files, put together and followed along symbolic links. What the system says of a link is outside the logic.
-ghost use Rattle.std.specs.Prelude.{◌≡◌, None, IfOk, IfErr};
+ghost use Rattle.std.specs.Prelude.{◌≡◌, ◌⊎◌, ◌≤◌, None, IfOk, IfErr, IsUtf8, length};
 ghost use Rattle.std.specs.IoError.{raw_os_error};
 ghost use Rattle.output.specs.Counts.{IsPrefixLen};
 ghost use Rattle.command.specs.Paths.{Fits};
@@ -96,7 +96,10 @@ fn read_from(path: &[u8], text: &[u8]) -> Path
 }
 
 // The name as text, which std's calls want. One of 4,096 bytes or more is refused as the system would.
-pub fn text(name: &[u8]) -> io::Result<&str> {
+pub fn text(name: &[u8]) -> io::Result<&str>
+    ensures same { IfOk result (λ text. text.now ≡ name.now) }
+    ensures refused { IfErr result (λ _. (4096 ≤ length name.now) ⊎ ¬ (IsUtf8 name.now)) }
+{
     if 4096 <= name.len() {
         return Err(Error::from_raw_os_error(ENAMETOOLONG));
     }
