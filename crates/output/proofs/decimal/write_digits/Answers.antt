@@ -21,14 +21,14 @@ digits_step : (b i k rest g : ℕ) (out : List ℕ) → 0 < i → i ≤ k → k 
     → last_digits b (i - 1) (rest / b) ++ slice (i - 1) k (set out (i - 1) g) ≡ last_digits b i rest ++ slice i k out
 digits_step b zero k rest g out some h room e = absurd (not-suc-le-zero some)
 digits_step b (suc j) k rest g out some h room e =
-    let todo = last_digits b j (rest / b) in
+    let higher = last_digits b j (rest / b) in
     let done = slice (suc j) k out in
     let within : j < length (take k out) = subst (λ (n : ℕ). j < n) (sym (length-take-le k out room)) h in
     ap (λ (m : ℕ). last_digits b m (rest / b) ++ slice m k (set out m g)) (sub-one (suc j))
-    ∙ ap (λ (l : List ℕ). todo ++ drop j l) (take-set-lt k out j g h)
-    ∙ ap (λ (l : List ℕ). todo ++ l) (drop_set (take k out) j g within)
-    ∙ ap (λ (x : ℕ). todo ++ x ∷ done) e
-    ∙ sym (append_snoc todo (hex_digit_ascii (rest % b)) done)
+    ∙ ap (λ (l : List ℕ). higher ++ drop j l) (take-set-lt k out j g h)
+    ∙ ap (λ (l : List ℕ). higher ++ l) (drop_set (take k out) j g within)
+    ∙ ap (λ (x : ℕ). higher ++ x ∷ done) e
+    ∙ sym (append_snoc higher (hex_digit_ascii (rest % b)) done)
 
 pub loop-i-init : goal.loop-i-init
 loop-i-init c =
