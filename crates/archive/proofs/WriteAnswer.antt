@@ -1,49 +1,46 @@
 -- The archive form, put together from its records, and what is answered.
 --
---   rules_low         the first rule stands at a low index
 --   header_put        a record 0 of the right fields is that of the plan's content
 --   written           record 0, the junctions, the belts and the rules, each behind the one before, are the archive form, as long as the plan
 --   plan_refused, refused_16, none_refused
 --                     the number of the first broken line: that of the plan, and where the plan is accepted 16 or 0
 --   refused_told, written_told
 --                     what is answered on a refusal, and where the archive form was written
---   told_fits         what was written is no longer than the buffer
 --   refused_claim     RefusedClaim; unrefused_plan: where nothing is refused, the plan is accepted
 --   limits_claim      InLimitsClaim
 --
 -- Assumes nothing.
-use mathlib.Core.Path.{◌≡◌, refl, sym, ◌∙◌, ap, subst}
+use mathlib.Core.Path.{◌≡◌, refl, sym, ◌∙◌, ap}
 use mathlib.Core.Logic.{◌⊎◌, inl, inr}
-use mathlib.Core.Bool.{Bool, not}
 use Prim.Native.Nat.{ℕ, zero, suc, ◌+◌, ◌*◌, ◌≤◌, ◌<◌}
 use mathlib.Core.List.{List, [], ◌∷◌, ◌++◌, map}
 use native.Mathlib.Omega.{arith}
 use lib.ListN.{length, drop, length-append}
-use lib.Dec.{eqb}
 use borrow.Author.Tests.{lt-ltb, le-ltb}
+use Rattle.std.specs.Prelude.{Ok, Err, Option, IfSome, MatchOption}
 use Rattle.plan.specs.declared.refusal.Refusal.{Refusal}
-use Rattle.plan.specs.Bounds.{max_records}
+use Rattle.plan.specs.declared.read.RuleId.{RuleId}
+use Rattle.plan.specs.declared.read.Literal.{Literal}
 use Rattle.plan.specs.Records.{field, records, placed}
-use Rattle.plan.specs.Plan.{plan_of}
+use Rattle.plan.specs.Plan.{plan_of, indices_of}
 use Rattle.plan.specs.Refusals.{Line, about, plan_lines, first_broken, refusal, refusal_number}
-use Rattle.plan.specs.Reading.{Accepted, IsRule, first_rule}
+use Rattle.plan.specs.Reading.{Accepted, IsRule, first_rule, rule_link}
 use Rattle.plan.proofs.LineFirst.{front_first, on_broken, on_unbroken, past, passed, first_about, first_exactly}
 use Rattle.plan.proofs.LineNumbers.{nonzero}
 use Rattle.plan.proofs.Lists.{lt_or_le}
-use Rattle.plan.proofs.Reading.{in_limits, limits, records_few, first_rule_is}
-use Rattle.archive.specs.declared.entry.Answer.{Answer}
-use Rattle.archive.specs.declared.entry.Answer.TheVariants.{Written, Refused}
-use Rattle.archive.specs.Content.{Content, content_of}
+use Rattle.plan.proofs.Reading.{in_limits, limits, records_few, rules_from_lem}
+use Rattle.archive.specs.Renaming.{renamed_rules}
+use Rattle.archive.specs.Content.{Content, content_of, place}
 use Rattle.archive.specs.Form.{fields, record_bytes_of, bytes_of, chain_start, legs_start}
 use Rattle.archive.specs.Form.{junction_records, leg_records, rule_records, header_of, records_of, archive_of}
-use Rattle.archive.specs.Answers.{Lent, lent_of, broken16, line16, archive_lines, archive_refusal, written_or, size_in, Told}
+use Rattle.archive.specs.Answers.{Lent, lent_of, broken16, line16, archive_lines, archive_refusal, written_or, Told}
 use Rattle.archive.specs.Claims.{RefusedClaim, InLimitsClaim}
-use Rattle.archive.specs.Inner.{index_if}
+use Rattle.archive.specs.Inner.{rules_in}
 use Rattle.archive.proofs.RecordBytes.{length_bytes}
 use Rattle.archive.proofs.FormRecords.{length_junctions, length_legs, length_records}
 use Rattle.archive.proofs.ContentSize.{size_again}
 use Rattle.archive.proofs.WriteRecords.{put_list}
-use Rattle.archive.proofs.WriteRules.{rules, rules_head}
+use Rattle.archive.proofs.WriteRules.{rules_link}
 
 -- ---- the archive form
 
@@ -55,32 +52,27 @@ module _ {b : List ℕ} (ok : Accepted b) where
   abbrev start : ℕ
   start = legs_start content + length content.legs
 
-  pub rules_low : (at : ℕ) → at ≡ start → at ≤ max_records
-  rules_low at e = omega (arith, size_again ok, length_records content, (records_few ok).0)
-
   -- with the first rule, the fields of the record and the buffer after it
-  pub header_put : (l : List ℕ) (at : ℕ) → at ≡ start → (r : ℕ) → r ≡ first_rule b → (some : Bool) → some ≡ not (eqb r 0)
-      → {f1 f2 f3 f4 : ℕ} → f1 ≡ field b 0 1 → f2 ≡ field b 0 2 → f3 ≡ index_if some at → f4 ≡ field b 0 4
+  pub header_put : (l : List ℕ) (at : ℕ) → at ≡ start → (o : Option RuleId) → rule_link o ≡ first_rule b → IfSome o (λ r. IsRule b r.0)
+      → {f1 f2 f4 : ℕ} (f3 : ℕ) → f1 ≡ field b 0 1 → f2 ≡ field b 0 2 → MatchOption o (f3 ≡ 0) (λ _. f3 ≡ at) → f4 ≡ field b 0 4
       → (out : List ℕ) → out ≡ placed l 0 (record_bytes_of (fields 7 f1 f2 f3 f4 0)) → out ≡ placed l 0 (record_bytes_of (header_of content))
   unfolding plan_of records_of
-  header_put l at e r s some m {f1} {f2} {f3} {f4} e1 e2 e3 e4 out q =
-      let h : (r ≡ 0 → ⊥) → IsRule b r = λ d. subst (IsRule b) (sym s) (first_rule_is ok (λ z. d (s ∙ z))) in
+  header_put l at e o q found {f1} {f2} {f4} f3 e1 e2 m e4 out put =
       let head : f3 ≡ chain_start start content.rules =
-      e3
-      ∙ ap (λ (t : Bool). index_if t at) m
-      ∙ sym (rules_head ok r at h)
-      ∙ (λ i. chain_start (e i) (rules b (s i))) in
+      rules_link ok o found at f3 m
+      ∙ (λ i. chain_start (e i) (rules_in b (q i)))
+      ∙ ap (λ (rs : List (List Literal)). chain_start start (renamed_rules (place (indices_of (plan_of b).belts)) rs)) (sym (rules_from_lem ok)) in
       let count : f4 ≡ length (records_of content) = e4 ∙ sym (size_again ok) in
-      q ∙ (λ i. placed l 0 (record_bytes_of (fields 7 (e1 i) (e2 i) (head i) (count i) 0)))
+      put ∙ (λ i. placed l 0 (record_bytes_of (fields 7 (e1 i) (e2 i) (head i) (count i) 0)))
 
-  pub written : (l : List ℕ) → 12 * records b ≤ length l → (headed joined linked out : List ℕ) (at : ℕ) → at ≡ start
+  pub written : (l : List ℕ) → 12 * records b ≤ length l → (headed joined linked out : List ℕ)
       → headed ≡ placed l 0 (record_bytes_of (header_of content))
       → joined ≡ placed headed 12 (bytes_of (junction_records content))
       → linked ≡ placed joined (12 * legs_start content) (bytes_of (leg_records (legs_start content) content.legs))
-      → out ≡ placed linked (12 * at) (bytes_of (rule_records (legs_start content) at content.rules))
+      → out ≡ placed linked (12 * start) (bytes_of (rule_records (legs_start content) start content.rules))
       → out ≡ archive_of (plan_of b) ++ drop (length b) l
   unfolding records_of
-  written l room headed joined linked out at e p q r s =
+  written l room headed joined linked out p q r s =
       let c = content in
       let n = legs_start c in
       let js = junction_records c in
@@ -96,9 +88,8 @@ module _ {b : List ℕ} (ok : Accepted b) where
       put_list l 0 (top ∷ []) headed p js joined 1 q (omega arith) (omega arith) in
       let two : linked ≡ placed l (12 * 0) (bytes_of (top ∷ (js ++ es))) =
       put_list l 0 (top ∷ js) joined one es linked n r (omega arith) (omega arith) in
-      let last : out ≡ placed linked (12 * start) (bytes_of rs) = s ∙ ap (λ (k : ℕ). placed linked (12 * k) (bytes_of (rule_records n k c.rules))) e in
       let three : out ≡ placed l (12 * 0) (bytes_of (records_of c)) =
-      put_list l 0 (top ∷ (js ++ es)) linked two rs out start last (omega arith) (omega arith) in
+      put_list l 0 (top ∷ (js ++ es)) linked two rs out start s (omega arith) (omega arith) in
       let size : 0 + length (bytes_of (records_of c)) ≡ length b = omega (arith, length_bytes (records_of c), (records_few ok).1) in
       three ∙ ap (λ (k : ℕ). bytes_of (records_of c) ++ drop k l) size
 
@@ -156,10 +147,10 @@ limits_claim k = (
 
 -- ---- what is answered
 
-pub refused_told : (b out : List ℕ) (r : Refusal) → archive_refusal (lent_of b out) ≡ refusal_number r → Told (Refused r) b out out
+pub refused_told : (b out : List ℕ) (r : Refusal) → archive_refusal (lent_of b out) ≡ refusal_number r → Told (Err r) b out out
 refused_told b out r e = go (refusal_number r) (nonzero r) e
   where
-    go : (n : ℕ) → (n ≡ 0 → ⊥) → archive_refusal (lent_of b out) ≡ n → Told (Refused r) b out out
+    go : (n : ℕ) → (n ≡ 0 → ⊥) → archive_refusal (lent_of b out) ≡ n → Told (Err r) b out out
     go zero h q = absurd (h refl)
     go (suc n) h q = record {
       number = sym e;
@@ -168,7 +159,7 @@ refused_told b out r e = go (refusal_number r) (nonzero r) e
     }
 
 pub written_told : {b : List ℕ} → Accepted b → (out after : List ℕ) → length b ≤ length out → after ≡ archive_of (plan_of b) ++ drop (length b) out
-    → Told (Written (length b)) b out after
+    → Told (Ok (length b)) b out after
 written_told {b} ok out after h e =
     let none = none_refused (lent_of b out) ok h in
     let form = archive_of (plan_of b) in
@@ -180,17 +171,3 @@ written_told {b} ok out after h e =
           ∙ ap (λ (m : ℕ). form ++ drop m out) size
           ∙ sym (ap (λ (m : ℕ). written_or {A = List ℕ} m (form ++ drop (length form) out) out) none);
     }
-
-pub told_fits : (v : Answer) (b before after : List ℕ) → Told v b before after → size_in v ≤ length after
-told_fits v b before after told = go (archive_refusal (lent_of b before)) refl
-  where
-    go : (n : ℕ) → archive_refusal (lent_of b before) ≡ n → size_in v ≤ length after
-    go zero e =
-        let form = archive_of (plan_of b) in
-        let size : size_in v ≡ length form = told.size ∙ ap (λ (m : ℕ). written_or {A = ℕ} m (length form) 0) e in
-        let put : after ≡ form ++ drop (length form) before =
-        told.out ∙ ap (λ (m : ℕ). written_or {A = List ℕ} m (form ++ drop (length form) before) before) e in
-        omega (arith, size, ap length put, length-append form (drop (length form) before))
-    go (suc n) e =
-        let size : size_in v ≡ 0 = told.size ∙ ap (λ (m : ℕ). written_or {A = ℕ} m (length (archive_of (plan_of b))) 0) e in
-        omega (arith, size)

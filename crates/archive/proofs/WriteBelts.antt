@@ -2,8 +2,6 @@
 -- with its new index, are those of the archive form.
 --
 --   junction_first      the new index of the first belt of a junction is what the archive form has there
---   first_low, next_low
---                       the indices of the first belt of a junction and of the next of a belt are below max_records
 --   junctions_to b j     the records of the junctions below j; length_junctions: how many
 --   junction_put        writing one more record behind them gives those below j + 1
 --   all_legs b           the records of all legs
@@ -20,27 +18,28 @@ use Prim.Native.Nat.{ℕ, zero, suc, ◌+◌, ◌*◌, ◌/◌, ◌%◌, ◌-◌
 use mathlib.Core.List.Memᴰ
 use mathlib.Core.List.{List, [], ◌∷◌, ◌++◌, map, Memᴰ, map-append}
 use native.Mathlib.Omega.{arith}
-use lib.ListN.{length, get_or, take, length-append, length-map}
+use lib.ListN.{length, take, length-append, length-map}
 use lib.Seq.{take_all, length-take-le}
 use lib.Dec.{eqb}
 use borrow.Author.Tests.{eq-eqb}
+use Rattle.std.specs.Prelude.{Option, Some, None, IfSome, MatchOption}
+use Rattle.plan.specs.declared.read.BeltId.{BeltId}
 use Rattle.plan.specs.Lists.{keep, keep_by, upto}
-use Rattle.plan.specs.Bounds.{field_limit, max_records}
+use Rattle.plan.specs.Bounds.{field_limit}
 use Rattle.plan.specs.Records.{field, kind, records, record_of, placed}
 use Rattle.plan.specs.Plan.{Belt, plan_of, leaves, belt_at, belt_records, indices_of}
-use Rattle.plan.specs.Reading.{Accepted, Bytes, IsBelt, first_belt, next_belt, belts_from}
+use Rattle.plan.specs.Reading.{Accepted, IsBelt, first_belt, next_belt, belt_link, belts_from}
 use Rattle.plan.proofs.Lists.{keep_in, in_map, length_iota}
 use Rattle.plan.proofs.ListRising.{Rises, more, upto_rises, keep_rises}
 use Rattle.plan.proofs.NamedBelts.{indices_back}
 use Rattle.plan.proofs.WordsNamed.{keep_append}
-use Rattle.plan.proofs.Reading.{field_low, leaving_from, belts_end, belts_next, first_belt_is, next_belt_is, belts_rise, on_chain, belt_low}
+use Rattle.plan.proofs.Reading.{leaving_from, belts_end, belts_next, first_belt_is, next_belt_is, belts_rise, on_chain, belt_low}
 use Rattle.archive.specs.Content.{Leg, leg_of, place, content_of, new_index}
 use Rattle.archive.specs.Form.{Fields, fields, bytes_of, first_leaving, legs_start, junction_record, leg_record, leg_records}
-use Rattle.archive.specs.Inner.{Numbered}
 use Rattle.archive.proofs.FormRecords.{length_legs}
 use Rattle.archive.proofs.WriteRecords.{put_more}
 use Rattle.archive.proofs.WriteIndices.{place_append, place_head, upto_more, low_belts, behind_belts, low_in, low_none, low_few, low_more, low_same}
-use Rattle.archive.proofs.WriteIndices.{low_split, belt_split, indices_are}
+use Rattle.archive.proofs.WriteIndices.{low_split, belt_split, indices_are, new_index_lem}
 
 -- ---- the first leg that leaves a junction
 
@@ -80,16 +79,18 @@ first_leaving_lem j i (y ∷ es) (more h r) = go (leaves_at j y) (first_leaving_
 -- ---- the first belt of a junction, and the next of a belt
 
 module _ {b : List ℕ} (ok : Accepted b) where
-  -- the new index of the head of a chain, where g gives it
-  head_of : (new : List ℕ) (g : ℕ → ℕ) → get_or new 0 0 ≡ 0 → (e : ℕ) → ((e ≡ 0 → ⊥) → IsBelt b e × (get_or new e 0 ≡ g e))
-      → get_or new e 0 ≡ head_by g (belts_from b e)
-  head_of new g z zero h = z ∙ ap (head_by g) (sym (belts_end ok))
-  head_of new g z (suc e) h = let k = h (λ q. omega arith) in k.1 ∙ ap (head_by g) (sym (belts_next ok (suc e) k.0))
+  -- a chain's first belt, by what g gives for its index; 0 where there is none
+  head_of : (g : ℕ → ℕ) (o : Option BeltId) → IfSome o (λ e. IsBelt b e.0) → (r : ℕ) → MatchOption o (r ≡ 0) (λ e. r ≡ g e.0)
+      → r ≡ head_by g (belts_from b (belt_link o))
+  head_of g None found r h = h ∙ ap (head_by g) (sym (belts_end ok))
+  head_of g (Some e) found r h = h ∙ ap (head_by g) (sym (belts_next ok e.0 found))
 
-  pub junction_first : (new : List ℕ) → Numbered b new → (j : ℕ) → 1 ≤ j → j ≤ (plan_of b).junctions
-      → get_or new (first_belt b j) 0 ≡ first_leaving j (legs_start (content_of (plan_of b))) (content_of (plan_of b)).legs
-  junction_first new n j l u =
-      head_of new (new_index (plan_of b)) n.none (first_belt b j) (λ d. let o = first_belt_is ok j l u d in (o, n.each (first_belt b j) o))
+  pub junction_first : (j : ℕ) → 1 ≤ j → j ≤ (plan_of b).junctions → (o : Option BeltId) → belt_link o ≡ first_belt b j → IfSome o (λ e. IsBelt b e.0)
+      → (r : ℕ) → MatchOption o (r ≡ 0) (λ e. r ≡ new_index (plan_of b) e.0)
+      → r ≡ first_leaving j (legs_start (content_of (plan_of b))) (content_of (plan_of b)).legs
+  junction_first j l u o q found r h =
+      head_of (new_index (plan_of b)) o found r h
+      ∙ ap (λ (e : ℕ). head_by (new_index (plan_of b)) (belts_from b e)) q
       ∙ ap (head_by (new_index (plan_of b))) (sym (leaving_from ok j l u))
       ∙ sym (first_leaving_lem j (legs_start (content_of (plan_of b))) (plan_of b).belts (belts_rise ok))
 
@@ -146,29 +147,33 @@ module _ {b : List ℕ} (ok : Accepted b) where
       first n (Memᴰ.head q) z = omega arith
       first n (Memᴰ.tail m) z = absurd (Memᴰ.not-nil m)
 
-  belt_next : (new : List ℕ) → Numbered b new → (e : ℕ) → IsBelt b e
-      → get_or new (next_belt b e) 0
-      ≡ first_leaving (leaves b e) (suc (suc (plan_of b).junctions + length (low_belts b e))) (map leg_of (map (belt_at b) (behind_belts b (e + 1))))
-  belt_next new n e o =
-      let i = suc (suc (plan_of b).junctions + length (low_belts b e)) in
-      let high = map (belt_at b) (behind_belts b (e + 1)) in
-      let back = indices_back b (behind_belts b (e + 1)) in
-      head_of new (λ (d : ℕ). i + place (indices_of high) d) n.none (next_belt b e)
-      (λ z. let (u, k) = next_belt_is ok e o z in
-      (k, n.each (next_belt b e) k ∙ behind_index e (next_belt b e) o u ∙ ap (λ (l : List ℕ). i + place l (next_belt b e)) (sym back)))
-      ∙ ap (head_by (λ (d : ℕ). i + place (indices_of high) d)) (behind_leaving e o)
+  belt_next : (e : ℕ) → IsBelt b e → (o : Option BeltId) → belt_link o ≡ next_belt b e → IfSome o (λ d. IsBelt b d.0)
+      → (r : ℕ) → MatchOption o (r ≡ 0) (λ d. r ≡ new_index (plan_of b) d.0)
+      → r ≡ first_leaving (leaves b e) (suc (suc (plan_of b).junctions + length (low_belts b e))) (map leg_of (map (belt_at b) (behind_belts b (e + 1))))
+  belt_next e is o q found r h =
+      head_of by_high o found r (behind o q found h)
+      ∙ ap (λ (d : ℕ). head_by by_high (belts_from b d)) q
+      ∙ ap (head_by by_high) (behind_leaving e is)
       ∙ sym (first_leaving_lem (leaves b e) i high (subst Rises (sym back) (keep_rises (λ (r : ℕ). eqb (kind b r) 2) (upto_rises (e + 1) (records b)))))
+    where
+      i : ℕ
+      i = suc (suc (plan_of b).junctions + length (low_belts b e))
 
-  -- their indices are those of places of the array
-  index_low : (e : ℕ) → ((e ≡ 0 → ⊥) → IsBelt b e) → e < max_records
-  index_low zero o = omega arith
-  index_low (suc e) o = (belt_low ok (suc e) (o (λ z. omega arith))).2
+      high : List Belt
+      high = map (belt_at b) (behind_belts b (e + 1))
 
-  pub first_low : (j : ℕ) → 1 ≤ j → j ≤ (plan_of b).junctions → first_belt b j < max_records
-  first_low j l u = index_low (first_belt b j) (first_belt_is ok j l u)
+      back : indices_of high ≡ behind_belts b (e + 1)
+      back = indices_back b (behind_belts b (e + 1))
 
-  pub next_low : (e : ℕ) → IsBelt b e → next_belt b e < max_records
-  next_low e o = index_low (next_belt b e) (λ d. (next_belt_is ok e o d).1)
+      by_high : ℕ → ℕ
+      by_high d = i + place (indices_of high) d
+
+      behind : (o : Option BeltId) → belt_link o ≡ next_belt b e → IfSome o (λ d. IsBelt b d.0)
+          → MatchOption o (r ≡ 0) (λ d. r ≡ new_index (plan_of b) d.0) → MatchOption o (r ≡ 0) (λ d. r ≡ by_high d.0)
+      behind None q found h = h
+      behind (Some d) q found h =
+          let (u, k) = next_belt_is ok e is (λ z. omega (arith, (belt_low ok d.0 found).0)) in
+          h ∙ behind_index e d.0 is (omega arith) ∙ ap (λ (l : List ℕ). i + place l d.0) (sym back)
 
 -- ---- the records of junctions
 
@@ -179,14 +184,15 @@ junctions_to b j = map (junction_record (content_of (plan_of b))) (upto 1 j)
 pub length_junctions : (b : List ℕ) (j : ℕ) → 1 ≤ j → 1 + length (junctions_to b j) ≡ j
 length_junctions b j h = let size = length-map (upto 1 j) (junction_record (content_of (plan_of b))) ∙ length_iota 1 (j - 1) in omega arith
 
-pub junction_put : {b : List ℕ} → Accepted b → (new : List ℕ) → Numbered b new → (l mid out : List ℕ) (j e : ℕ) → 1 ≤ j → j ≤ (plan_of b).junctions
-    → 12 * j + 12 ≤ length l → mid ≡ placed l (12 * 1) (bytes_of (junctions_to b j)) → e ≡ first_belt b j
-    → out ≡ placed mid (12 * j) (record_of 1 (get_or new e 0) 0 0 0 0) → out ≡ placed l (12 * 1) (bytes_of (junctions_to b (j + 1)))
-junction_put {b} ok new n l mid out j e low high room p is q =
+pub junction_put : {b : List ℕ} → Accepted b → (l mid out : List ℕ) (j : ℕ) → 1 ≤ j → j ≤ (plan_of b).junctions
+    → 12 * j + 12 ≤ length l → mid ≡ placed l (12 * 1) (bytes_of (junctions_to b j))
+    → (o : Option BeltId) → belt_link o ≡ first_belt b j → IfSome o (λ e. IsBelt b e.0) → (r : ℕ) → MatchOption o (r ≡ 0) (λ e. r ≡ new_index (plan_of b) e.0)
+    → out ≡ placed mid (12 * j) (record_of 1 r 0 0 0 0) → out ≡ placed l (12 * 1) (bytes_of (junctions_to b (j + 1)))
+junction_put {b} ok l mid out j low high room p o q found r h put =
     let junction_record_of = junction_record (content_of (plan_of b)) in
     let size = length_junctions b j low in
-    let next = ap (λ (i : ℕ). get_or new i 0) is ∙ junction_first ok new n j low high in
-    put_more l 1 (junctions_to b j) mid p (junction_record_of j) out j (q ∙ ap (λ (i : ℕ). placed mid (12 * j) (record_of 1 i 0 0 0 0)) next) (omega arith) room
+    put_more l 1 (junctions_to b j) mid p (junction_record_of j) out j
+    (put ∙ ap (λ (i : ℕ). placed mid (12 * j) (record_of 1 i 0 0 0 0)) (junction_first ok j low high o q found r h)) (omega arith) room
     ∙ ap (λ (rs : List Fields). placed l (12 * 1) (bytes_of rs)) (sym (ap (map junction_record_of) (upto_more 1 j low) ∙ map-append junction_record_of (upto 1 j) (j ∷ [])))
 
 -- ---- the records of legs
@@ -242,9 +248,10 @@ module _ {b : List ℕ} (ok : Accepted b) where
   legs_cut e o =
       ap (map leg_of) (belts_cut ok e o) ∙ map-append leg_of (map (belt_at b) (low_belts b e)) (belt_at b e ∷ map (belt_at b) (behind_belts b (e + 1)))
 
-  legs_more : Bytes b → (new : List ℕ) → Numbered b new → (e : ℕ) → suc (plan_of b).junctions ≤ e → IsBelt b e
-      → legs_to b (e + 1) ≡ legs_to b e ++ fields 2 (get_or new (next_belt b e) 0) (field b e 2) (field b e 3) (field b e 4) 0 ∷ []
-  legs_more bytes new n e h o =
+  legs_more : (e : ℕ) → suc (plan_of b).junctions ≤ e → IsBelt b e → field b e 3 < field_limit → (r : ℕ)
+      → r ≡ first_leaving (leaves b e) (suc (suc (plan_of b).junctions + length (low_belts b e))) (map leg_of (map (belt_at b) (behind_belts b (e + 1))))
+      → legs_to b (e + 1) ≡ legs_to b e ++ fields 2 r (field b e 2) (field b e 3) (field b e 4) 0 ∷ []
+  legs_more e h o low_field r next =
       let low = map leg_of (map (belt_at b) (low_belts b e)) in
       let x = leg_of (belt_at b e) in
       let high = map leg_of (map (belt_at b) (behind_belts b (e + 1))) in
@@ -252,28 +259,30 @@ module _ {b : List ℕ} (ok : Accepted b) where
       let size : length low ≡ length (low_belts b e) = length-map (map (belt_at b) (low_belts b e)) leg_of ∙ length-map (low_belts b e) (belt_at b) in
       let longer = ap length (low_more b e h o.1) ∙ length-append (low_belts b e) (e ∷ []) in
       let one : length (low_belts b (e + 1)) ≡ suc (length low) = omega arith in
-      let cost = cost_fields (field b e 4) (field b e 3) (field_low b bytes e 3) in
+      let cost = cost_fields (field b e 4) (field b e 3) low_field in
       ap (λ (k : ℕ). take k (all_legs b)) one
       ∙ ap (λ (l : List Leg). take (suc (length low)) (leg_records i l)) (legs_cut e o)
       ∙ take_more low i x high
       ∙ ap (λ (l : List Leg). take (length low) (leg_records i l) ++ leg_record x (first_leaving (leaves b e) (suc (i + length low)) high) ∷ [])
       (sym (legs_cut e o))
       ∙ ap (λ (k : ℕ). take k (all_legs b) ++ leg_record x (first_leaving (leaves b e) (suc (i + k)) high) ∷ []) size
-      ∙ ap (λ (k : ℕ). legs_to b e ++ leg_record x k ∷ []) (sym (belt_next ok new n e o))
-      ∙ (λ k. legs_to b e ++ fields 2 (get_or new (next_belt b e) 0) (field b e 2) (cost.0 k) (cost.1 k) 0 ∷ [])
+      ∙ ap (λ (k : ℕ). legs_to b e ++ leg_record x k ∷ []) (sym next)
+      ∙ (λ k. legs_to b e ++ fields 2 r (field b e 2) (cost.0 k) (cost.1 k) 0 ∷ [])
 
-  -- the record of belt e, written behind those of the lower ones
-  pub belt_put : Bytes b → (new : List ℕ) → Numbered b new → (l mid out : List ℕ) (e at next to low high : ℕ) → suc (plan_of b).junctions ≤ e → IsBelt b e
+  -- the record of belt e, written behind those of the lower ones, with the new index of the next belt of its chain
+  pub belt_put : (l mid out : List ℕ) (e at to low high : ℕ) → IsBelt b e
       → 12 * records b ≤ length l → mid ≡ placed l (12 * suc (plan_of b).junctions) (bytes_of (legs_to b e))
-      → at ≡ suc (plan_of b).junctions + length (low_belts b e)
-      → next ≡ next_belt b e → to ≡ field b e 2 → low ≡ field b e 3 → high ≡ field b e 4
-      → out ≡ placed mid (12 * at) (record_of 2 (get_or new next 0) to low high 0)
+      → at ≡ new_index (plan_of b) e
+      → (o : Option BeltId) → belt_link o ≡ next_belt b e → IfSome o (λ d. IsBelt b d.0) → (r : ℕ) → MatchOption o (r ≡ 0) (λ d. r ≡ new_index (plan_of b) d.0)
+      → to ≡ field b e 2 → low ≡ field b e 3 → low < field_limit → high ≡ field b e 4
+      → out ≡ placed mid (12 * at) (record_of 2 r to low high 0)
       → out ≡ placed l (12 * suc (plan_of b).junctions) (bytes_of (legs_to b (e + 1)))
-  belt_put bytes new n l mid out e at next to low high h o room p is q0 q2 q3 q4 q =
-      let size = length_legs_to b e h (omega (arith, o.0)) in
-      let few = low_few b e h in
-      let r = fields 2 (get_or new (next_belt b e) 0) (field b e 2) (field b e 3) (field b e 4) 0 in
-      put_more l (suc (plan_of b).junctions) (legs_to b e) mid p r out at
-      (q ∙ (λ k. placed mid (12 * at) (record_of 2 (get_or new (q0 k) 0) (q2 k) (q3 k) (q4 k) 0)))
-      (omega arith) (omega (arith, o.0))
-      ∙ ap (λ (rs : List Fields). placed l (12 * suc (plan_of b).junctions) (bytes_of rs)) (sym (legs_more bytes new n e h o))
+  belt_put l mid out e at to low high is room p place o q found r h q2 q3 small q4 put =
+      let h0 : suc (plan_of b).junctions ≤ e = omega (arith, (belt_low ok e is).0) in
+      let size = length_legs_to b e h0 (omega (arith, is.0)) in
+      let few = low_few b e h0 in
+      let new = new_index_lem ok e is in
+      put_more l (suc (plan_of b).junctions) (legs_to b e) mid p (fields 2 r (field b e 2) (field b e 3) (field b e 4) 0) out at
+      (put ∙ (λ k. placed mid (12 * at) (record_of 2 r (q2 k) (q3 k) (q4 k) 0)))
+      (omega arith) (omega (arith, is.0))
+      ∙ ap (λ (rs : List Fields). placed l (12 * suc (plan_of b).junctions) (bytes_of rs)) (sym (legs_more e h0 is (omega arith) r (belt_next ok e is o q found r h)))

@@ -10,11 +10,12 @@
 --                       none are below the first record behind the junctions; a belt adds itself and another record nothing; below the end are all of
 --                       the plan's belts
 --   low_split           the plan's belts are the low ones and those behind; belt_split: the same where record e is a belt
+--   no_belt             a number that is not the index of a belt is not that of a belt record
 --   indices_are         the indices of the plan's belts are the records that are belts
 --   new_index_lem           the new index of a belt: the first behind the junctions, and one more for each lower belt
---   NumberedTo b new e  the array `new` has the new indices of the belts below record e, and 0 at place 0
+--   NumberedTo b new e  the array `new` has the new indices of the belts below record e
 --   number_none, number_same, number_more
---                       an array of zeros has those below the first record behind the junctions; a record that is no belt passes; that of a belt is stored
+--                       any array has those below the first record behind the junctions; a record that is no belt passes; that of a belt is stored
 --   numbered            an array that has those below the end has all
 --
 -- Assumes nothing.
@@ -25,11 +26,11 @@ use Prim.Native.Nat.{ℕ, suc, ◌+◌, ◌-◌, ◌≤◌, ◌<◌}
 use mathlib.Core.List.{List, [], ◌∷◌, ◌++◌, map, Memᴰ, append-nil}
 use native.Mathlib.Omega.{arith}
 use native.Mathlib.Nat.{suc-add, zero-add}
-use lib.ListN.{length, get_or, set, length-map, length-set, replicate, length-replicate, get_or-replicate}
+use lib.ListN.{length, get_or, set, length-map, length-set}
 use lib.Seq.{get_or-set_same, get_or-set_other}
 use lib.Dec.{eqb}
 use borrow.Author.Tests.{eq-eqb, ne_eqb}
-use Rattle.plan.specs.Lists.{keep, keep_by, iota, upto}
+use Rattle.plan.specs.Lists.{keep, keep_by, iota, upto, mem}
 use Rattle.plan.specs.Bounds.{max_records}
 use Rattle.plan.specs.Records.{kind, junctions, records}
 use Rattle.plan.specs.Plan.{plan_of, belt_at, belt_records, indices_of}
@@ -38,7 +39,7 @@ use Rattle.plan.proofs.Lists.{lt_or_le, keep_in, upto_in, upto_end, length_iota,
 use Rattle.plan.proofs.ListCounts.{length_keep, count_few, keep_first}
 use Rattle.plan.proofs.NamedBelts.{indices_back}
 use Rattle.plan.proofs.WordsNamed.{keep_append}
-use Rattle.plan.proofs.Reading.{belt_low}
+use Rattle.plan.proofs.Reading.{belt_low, belt_indexed}
 use Rattle.archive.specs.Content.{place, leg_of, content_of, new_index}
 use Rattle.archive.specs.Inner.{Numbered}
 
@@ -120,6 +121,9 @@ unfolding plan_of
 indices_are b = indices_back b (belt_records b)
 
 module _ {b : List ℕ} (ok : Accepted b) where
+  pub no_belt : (e : ℕ) → e < records b → mem e (indices_of (plan_of b).belts) ≡ false → kind b e ≡ 2 → ⊥
+  no_belt e u n k = let is = belt_indexed ok e (u, k) in cc
+
   -- the belts, cut before belt e
   pub belt_split : (e : ℕ) → IsBelt b e → belt_records b ≡ low_belts b e ++ e ∷ behind_belts b (e + 1)
   belt_split e o =
@@ -139,18 +143,13 @@ module _ {b : List ℕ} (ok : Accepted b) where
 
 pub record NumberedTo (b new : List ℕ) (e : ℕ) : Type 0 where
   pub size : length new ≡ max_records
-  pub none : get_or new 0 0 ≡ 0
   pub each : (d : ℕ) → IsBelt b d → d < e → get_or new d 0 ≡ new_index (plan_of b) d
 
-pub number_none : (b new : List ℕ) → Accepted b → new ≡ replicate max_records 0 → NumberedTo b new (suc (plan_of b).junctions)
-number_none b new ok q = record {
-  size = ap length q ∙ length-replicate {A = ℕ} max_records 0;
-  none = ap (λ (l : List ℕ). get_or l 0 0) q ∙ get_or-replicate {A = ℕ} max_records 0 0 0 (omega arith);
-  each = λ d o u. absurd (omega (arith, (belt_low ok d o).0));
-}
+pub number_none : {b : List ℕ} → Accepted b → (new : List ℕ) → length new ≡ max_records → (e : ℕ) → e ≡ suc (plan_of b).junctions → NumberedTo b new e
+number_none ok new q e z = record { size = q; each = λ d o u. absurd (omega (arith, (belt_low ok d o).0)) }
 
 pub number_same : (b new : List ℕ) (e : ℕ) → NumberedTo b new e → (kind b e ≡ 2 → ⊥) → NumberedTo b new (e + 1)
-number_same b new e h k = record { size = h.size; none = h.none; each = λ d o u. h.each d o (low d o u) }
+number_same b new e h k = record { size = h.size; each = λ d o u. h.each d o (low d o u) }
   where
     low : (d : ℕ) → IsBelt b d → d < e + 1 → d < e
     low d o u = ⊎_elim (λ (s : d < e). s) (λ (s : e ≤ d). let q : d ≡ e = omega arith in absurd (k (ap (kind b) (sym q) ∙ o.1))) (lt_or_le d e)
@@ -159,7 +158,6 @@ pub number_more : (b new : List ℕ) (e next : ℕ) → Accepted b → NumberedT
     → NumberedTo b (set new e next) (e + 1)
 number_more b new e next ok h o q = record {
   size = length-set new e next ∙ h.size;
-  none = get_or-set_other new e 0 next 0 (λ z. omega (arith, (belt_low ok e o).0)) ∙ h.none;
   each = λ d i u. ⊎_elim (λ (s : d < e). get_or-set_other new e d next 0 (λ z. omega arith) ∙ h.each d i s) (λ (s : e ≤ d). here d (omega arith)) (lt_or_le d e);
 }
   where
@@ -170,4 +168,4 @@ number_more b new e next ok h o q = record {
         ∙ q ∙ sym (new_index_lem ok e o) ∙ ap (new_index (plan_of b)) (sym z)
 
 pub numbered : (b new : List ℕ) (e : ℕ) → NumberedTo b new e → records b ≤ e → Numbered b new
-numbered b new e h u = record { size = h.size; none = h.none; each = λ d o. h.each d o (omega (arith, o.0)) }
+numbered b new e h u = record { size = h.size; each = λ d o. h.each d o (omega (arith, o.0)) }

@@ -8,17 +8,15 @@
 --   archive_in b         the archive form of the plan that the bytes b describe
 --   archive_size k            the length that is written; 0 on a refusal
 --   archive_after k out      the out buffer afterwards: the archive form, and behind it what stood there; on a refusal every byte as it was
---   number_in v, size_in v
---                       the numbers of each case of the code's answer: that of the refusal, or 0, and the length
+--   size_in v           the length in the code's answer; 0 on a refusal
 --   Told v b before after
 --                       the answer v and the out buffer, before and after, are those of the plan b
 --
--- `Answer` is declared by the code (src/entry.rt). Assumes nothing.
-use Rattle.std.specs.Prelude.{◌≡◌, ℕ, zero, suc, Bool, List, [], ◌∷◌, ◌++◌, map, length, drop, ltb}
+-- The code answers a length or a refusal; `number_of` gives the number of either (plan/Refusals). Assumes nothing.
+use Rattle.std.specs.Prelude.{◌≡◌, ℕ, zero, suc, Bool, List, [], ◌∷◌, ◌++◌, map, length, drop, ltb, Result, Ok, Err}
 use Rattle.plan.specs.Plan.{plan_of}
-use Rattle.plan.specs.Refusals.{Line, about, plan_lines, first_broken, refusal_number}
-use Rattle.archive.specs.declared.entry.Answer.{Answer}
-use Rattle.archive.specs.declared.entry.Answer.TheVariants.{Written, Refused}
+use Rattle.plan.specs.Refusals.{Line, about, plan_lines, first_broken, number_of}
+use Rattle.plan.specs.declared.refusal.Refusal.{Refusal}
 use Rattle.archive.specs.Form.{archive_of}
 
 pub record Lent : Type 0 where
@@ -61,15 +59,11 @@ lent_of b out = record { plan = b; room = length out }
 
 -- ---- what the code answers, in numbers
 
-abbrev pub number_in : Answer → ℕ
-number_in (Written size) = 0
-number_in (Refused r) = refusal_number r
+abbrev pub size_in : Result ℕ Refusal → ℕ
+size_in (Ok size) = size
+size_in (Err r) = 0
 
-abbrev pub size_in : Answer → ℕ
-size_in (Written size) = size
-size_in (Refused r) = 0
-
-pub record Told (v : Answer) (b before after : List ℕ) : Type 0 where
-  pub number : number_in v ≡ archive_refusal (lent_of b before)
+pub record Told (v : Result ℕ Refusal) (b before after : List ℕ) : Type 0 where
+  pub number : number_of v ≡ archive_refusal (lent_of b before)
   pub size : size_in v ≡ archive_size (lent_of b before)
   pub out : after ≡ archive_after (lent_of b before) before

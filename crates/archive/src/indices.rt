@@ -1,32 +1,65 @@
 // The new index of each belt: belts stand behind the junctions, in the order of their old indices.
-ghost use Rattle.std.specs.Prelude.{◌≡◌, replicate};
-ghost use Rattle.plan.specs.Bounds.{max_records};
+ghost use Rattle.std.specs.Prelude.{◌≡◌, MatchOption, IfSome};
 ghost use Rattle.plan.specs.Plan.{plan_of};
-ghost use Rattle.plan.specs.Reading.{Accepted};
-ghost use Rattle.archive.specs.Content.{content_of};
+ghost use Rattle.plan.specs.Reading.{IsBelt};
+ghost use Rattle.archive.specs.Content.{content_of, new_index};
 ghost use Rattle.archive.specs.Form.{rules_start};
 ghost use Rattle.archive.specs.Inner.{Numbered};
 
+use plan::accepted::AcceptedPlan;
 use plan::bounds::MAX_RECORDS;
-use plan::record::BELT;
-use plan::{read, record};
+use plan::read::BeltId;
 
-// Fills the array of new indices, by old indices, and answers the index behind the last belt. The array is all 0 before, and stays 0 where no belt is.
-pub fn number_belts(p: &[u8], new: &mut [u16; MAX_RECORDS]) -> usize
-    requires { Accepted p.now
-        × (new.old ≡ replicate max_records 0) }
-    ensures { Numbered p.now new.new
-        × (result ≡ rules_start (content_of (plan_of p.now))) }
-{
-    let n = record::records(p);
-    let mut e = read::junctions(p) + 1;
-    let mut next = e;
-    while e < n {
-        if record::field(p, e, 0) == BELT {
-            new[e] = next as u16;
-            next += 1;
+// An accepted plan whose belts are numbered anew.
+#[derive(Drop)]
+pub struct Renumbered<'a> {
+    pub plan: AcceptedPlan<'a>,
+    // The new index of each belt, at the place of its old one: an array, and not a map, since nothing here takes memory from the heap.
+    indices: [u16; MAX_RECORDS],
+    // The index behind the last belt, where the first rule stands.
+    pub rules_at: u16,
+    ghost numbered: { Numbered plan.bytes.now indices },
+    pub ghost ends: { rules_at ≡ rules_start (content_of (plan_of plan.bytes.now)) },
+}
+
+impl<'a> Renumbered<'a> {
+    // Numbers the belts of a plan anew.
+    pub fn new(plan: AcceptedPlan<'a>) -> Self
+        ensures { result.plan ≡ plan.entry }
+    {
+        // The index of a record fits a u16, as the check proves. No From narrows, and try_from would answer a Result that is never an Err.
+        let first = plan.junctions() + 1;
+        let mut indices = [0u16; MAX_RECORDS];
+        let mut next = first as u16;
+        for e in first..plan.records() {
+            if plan.is_belt(BeltId(e as u16)) {
+                indices[e] = next;
+                next += 1;
+            }
         }
-        e += 1;
+        Renumbered {
+            plan,
+            indices,
+            rules_at: next,
+        }
     }
-    next
+
+    // The new index of a belt.
+    pub fn new_index(&self, belt: BeltId) -> u16
+        requires { IsBelt self.now.plan.bytes.now belt.0 }
+        ensures { result ≡ new_index (plan_of self.now.plan.bytes.now) belt.0 }
+    {
+        self.indices[usize::from(belt.0)]
+    }
+
+    // The new index of the belt that a chain leads to, or 0 at its end.
+    pub fn link(&self, next: Option<BeltId>) -> u16
+        requires { IfSome next (λ e. IsBelt self.now.plan.bytes.now e.0) }
+        ensures { MatchOption next (result ≡ 0) (λ e. result ≡ new_index (plan_of self.now.plan.bytes.now) e.0) }
+    {
+        match next {
+            Some(belt) => self.new_index(belt),
+            None => 0,
+        }
+    }
 }

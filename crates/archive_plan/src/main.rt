@@ -12,82 +12,52 @@
 mod usage;
 
 use archive::entry;
-use archive::entry::Answer;
-use command::arguments::Request;
-use command::{arguments, files, plans, refusals, version};
-use output::{Streams, put, put_number};
+use command::buffer::PlanBytes;
+use command::failure::Failure;
+use command::{arguments, files, plans, program, refusals};
+use output::{Printer, Streams};
 use plan::bounds::MAX_PLAN_BYTES;
 use std::env::Env;
 use std::fs::Files;
 use std::io::Input;
 use std::random::RandomSource;
+use usage::USAGE;
 
 // Prints that so many bytes are written.
 fn print_written<R: Streams>(rt: &R, size: usize) {
-    let mut room = [0u8; 65536];
-    let said = put_number(rt, &mut room, output::nothing(), b"written ", size as u64);
-    let all = put(rt, &mut room, said, b"\n");
-    output::finish(rt, &room, all);
+    let mut out = Printer::new(rt);
+    out.put_number(b"written ", size as u64);
+    out.put(b"\n");
+    out.finish();
 }
 
 // Writes the archive form of a plan to the file of this name, then prints the line. Where it can't be written nothing is printed.
-fn answer<R: Files + Input + RandomSource + Alloc + Streams>(rt: &R, p: &[u8], name: &[u8]) {
+fn answer<R: Files + Input + RandomSource + Alloc + Streams>(
+    rt: &R,
+    p: &[u8],
+    name: &[u8],
+) -> Result<(), Failure> {
     // As long as the largest plan, so that line 16 is not broken.
     let mut out = [0u8; MAX_PLAN_BYTES];
-    let answer = entry::archive(p, &mut out);
-    let size = entry::size(answer);
-    if let Answer::Refused(r) = answer {
-        refusals::print_number(rt, r);
-        return;
+    match entry::archive(p, &mut out) {
+        Ok(size) => {
+            plans::keep(rt, name, &out[..size])?;
+            print_written(rt, size);
+        }
+        Err(r) => refusals::print_number(rt, r),
     }
-    if plans::keep(rt, name, &out[..size]) {
-        print_written(rt, size);
-    }
+    Ok(())
 }
 
-// Answers for the plan in the file of this name.
-fn archive_file<R: Files + Input + RandomSource + Alloc + Streams>(
-    rt: &R,
-    plan: &[u8],
-    name: &[u8],
-) {
-    // Larger than any plan, so that a byte too many is seen.
-    let mut p = [0u8; 65536];
-    let contents = files::read(rt, plan, &mut p);
-    let n = contents.size;
-    if contents.read {
-        answer(rt, &p[..n], name);
-    }
-}
-
-// Does what the arguments ask. False where they are wrong.
-fn run<R: Env + Files + Input + RandomSource + Alloc + Streams>(rt: &R) -> bool {
-    if !arguments::at_most(rt, 2) {
-        return false;
-    }
-    let mut plan = [0u8; 4096];
-    let n = arguments::input(rt, 1, b"PLAN", &mut plan);
-    if n == 0 {
-        return false;
-    }
-    let mut name = [0u8; 4096];
-    let m = arguments::file(rt, 2, b"OUT", &mut name);
-    if m == 0 {
-        return false;
-    }
-    archive_file(rt, &plan[..n], &name[..m]);
-    true
+// Does what the arguments ask.
+fn run<R: Env + Files + Input + RandomSource + Alloc + Streams>(rt: &R) -> Result<(), Failure> {
+    arguments::at_most(rt, 2)?;
+    let plan = arguments::input(rt, 1, b"PLAN")?;
+    let name = arguments::file(rt, 2, b"OUT")?;
+    let p: PlanBytes = files::read(rt, plan.as_bytes())?;
+    answer(rt, p.as_bytes(), name.as_bytes())
 }
 
 fn main(rt: HostRuntime) {
-    let request = arguments::requested(&rt);
-    match request {
-        Request::Usage => usage::print(&rt),
-        Request::Version => version::print(&rt, b"archive_plan"),
-        Request::Work => {
-            if !run(&rt) {
-                arguments::hint(&rt, b"archive_plan");
-            }
-        }
-    }
+    program::start(&rt, b"archive_plan", USAGE, run);
 }

@@ -1,12 +1,5 @@
 // How the program is used, in words.
-
-use output::Streams;
-
-// Prints how the program is used.
-pub fn print<R: Streams>(rt: &R) {
-    output::print(
-        rt,
-        b"usage: archive_plan PLAN OUT
+pub const USAGE: &[u8] = b"usage: archive_plan PLAN OUT
 Writes a depot plan anew in its archive form.
   PLAN   the file that holds the plan; - is standard input
   OUT    the file for the archive form. A file that holds something else is
@@ -19,6 +12,4 @@ Prints one of
   refused n   line n of the refusal table, whose words go to standard error
 -h or --help prints this, --version the versions of the planner and its kit.
 The exit status says nothing: it is always 0.
-",
-    );
-}
+";

@@ -8,111 +8,53 @@
 
 mod usage;
 
-use command::arguments::Request;
-use command::decimal::Number;
-use command::{arguments, files, refusals, version};
+use command::buffer::{Buffer, PlanBytes};
+use command::failure::Failure;
+use command::{arguments, files, program, refusals};
 use output::Streams;
 use route::check;
-use route::check::SheetVerdict;
 use route::path::{Lock, Trip};
 use std::env::Env;
 use std::fs::Files;
 use std::io::Input;
+use usage::USAGE;
 
-// What is asked by the arguments: from where to where the sheet is to lead, and under which lock.
-#[derive(Clone, Copy)]
-enum Wanted {
-    Trip(Trip),
-    // An argument is no number.
-    Wrong,
+// The trip that the arguments say: from where to where the sheet is to lead, and under which lock.
+fn asked<R: Env + Streams>(rt: &R) -> Result<Trip, Failure> {
+    let s = arguments::number(rt, 2, b"S")?;
+    let t = arguments::number(rt, 3, b"T")?;
+    let mask = arguments::number_or(rt, 5, b"MASK", 0)?;
+    let values = arguments::number_with(rt, 6, b"VALUES", 5)?;
+    let lock = Lock { mask, values };
+    Ok(Trip { s, t, lock })
 }
 
-// The trip that the arguments say.
-fn asked<R: Env + Streams>(rt: &R) -> Wanted {
-    let Number::Is(s) = arguments::number(rt, 2, b"S") else {
-        return Wanted::Wrong;
-    };
-    let Number::Is(t) = arguments::number(rt, 3, b"T") else {
-        return Wanted::Wrong;
-    };
-    let Number::Is(mask) = arguments::number_or(rt, 5, b"MASK", 0) else {
-        return Wanted::Wrong;
-    };
-    let Number::Is(values) = arguments::number_with(rt, 6, b"VALUES", 5) else {
-        return Wanted::Wrong;
-    };
-    Wanted::Trip(Trip {
-        s: s,
-        t: t,
-        lock: Lock {
-            mask: mask,
-            values: values,
-        },
-    })
+// Checks a sheet against a plan, both by name, and prints what the check says.
+fn check_files<R: Files + Input + Streams>(
+    rt: &R,
+    plan: &[u8],
+    trip: Trip,
+    sheet: &[u8],
+) -> Result<(), Failure> {
+    let p: PlanBytes = files::read(rt, plan)?;
+    // Longer than any sheet, so that a byte too many is seen.
+    let h: Buffer<4096> = files::read(rt, sheet)?;
+    match check::check(p.as_bytes(), trip, h.as_bytes()) {
+        Ok(()) => output::print(rt, b"accepted\n"),
+        Err(r) => refusals::print_refused(rt, r),
+    }
+    Ok(())
 }
 
-// Prints what the check says of a sheet.
-fn print_verdict<R: Streams>(rt: &R, p: &[u8], trip: Trip, h: &[u8]) {
-    let verdict = check::check(p, trip, h);
-    match verdict {
-        SheetVerdict::Accepted => output::print(rt, b"accepted\n"),
-        SheetVerdict::Refused(r) => refusals::print_refused(rt, r),
-    }
-}
-
-// Checks the sheet of this name against a plan.
-fn check_file<R: Files + Input + Streams>(rt: &R, p: &[u8], trip: Trip, sheet: &[u8]) {
-    // Larger than any sheet, so that a byte too many is seen.
-    let mut h = [0u8; 4096];
-    let contents = files::read(rt, sheet, &mut h);
-    let n = contents.size;
-    if contents.read {
-        print_verdict(rt, p, trip, &h[..n]);
-    }
-}
-
-// Checks a sheet against a plan, both by name.
-fn check_files<R: Files + Input + Streams>(rt: &R, plan: &[u8], trip: Trip, sheet: &[u8]) {
-    // Larger than any plan, so that a byte too many is seen.
-    let mut p = [0u8; 65536];
-    let contents = files::read(rt, plan, &mut p);
-    let n = contents.size;
-    if contents.read {
-        check_file(rt, &p[..n], trip, sheet);
-    }
-}
-
-// Does what the arguments ask. False where they are wrong.
-fn run<R: Env + Files + Input + Streams>(rt: &R) -> bool {
-    if !arguments::at_most(rt, 6) {
-        return false;
-    }
-    let mut plan = [0u8; 4096];
-    let n = arguments::input(rt, 1, b"PLAN", &mut plan);
-    if n == 0 {
-        return false;
-    }
-    let Wanted::Trip(trip) = asked(rt) else {
-        return false;
-    };
-    let mut sheet = [0u8; 4096];
-    let m = arguments::file(rt, 4, b"SHEET", &mut sheet);
-    if m == 0 {
-        return false;
-    }
-    check_files(rt, &plan[..n], trip, &sheet[..m]);
-    true
+// Does what the arguments ask.
+fn run<R: Env + Files + Input + Streams>(rt: &R) -> Result<(), Failure> {
+    arguments::at_most(rt, 6)?;
+    let plan = arguments::input(rt, 1, b"PLAN")?;
+    let trip = asked(rt)?;
+    let sheet = arguments::file(rt, 4, b"SHEET")?;
+    check_files(rt, plan.as_bytes(), trip, sheet.as_bytes())
 }
 
 fn main(rt: HostRuntime) {
-    let request = arguments::requested(&rt);
-    match request {
-        Request::Usage => usage::print(&rt),
-        Request::Version => version::print(&rt, b"check_sheet"),
-        Request::Work => {
-            if !run(&rt) {
-                arguments::hint(&rt, b"check_sheet");
-            }
-        }
-    }
+    program::start(&rt, b"check_sheet", USAGE, run);
 }

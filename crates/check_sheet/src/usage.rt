@@ -1,12 +1,5 @@
 // How the program is used, in words.
-
-use output::Streams;
-
-// Prints how the program is used.
-pub fn print<R: Streams>(rt: &R) {
-    output::print(
-        rt,
-        b"usage: check_sheet PLAN S T SHEET [MASK VALUES]
+pub const USAGE: &[u8] = b"usage: check_sheet PLAN S T SHEET [MASK VALUES]
 Checks a route sheet against a depot plan.
   PLAN    the file that holds the plan; - is standard input
   S       the number of the junction where the route begins, from 1
@@ -20,6 +13,4 @@ Numbers are decimal and below 2^64. Prints one of
   refused n: ..   line n of the refusal table, and its words
 -h or --help prints this, --version the versions of the planner and its kit.
 The exit status says nothing: it is always 0.
-",
-    );
-}
+";

@@ -6,12 +6,12 @@
 --   written cs    THE NUMBER that the text writes, if it is one; only_if t n: the number n, if t says so
 --   number_in v    the number that an answer stands for
 --
--- `Number` is declared by the code (src/decimal.rt). Assumes nothing.
+-- Assumes nothing.
 use Rattle.std.specs.Prelude.{ℕ, ◌+◌, ◌-◌, ◌*◌, ◌^◌, Bool, true, false, ◌&&◌, List, [], ◌∷◌, length, leb, ltb}
+use Rattle.std.specs.Prelude.{Some, None}
+use Rattle.std.specs.declared.option.Option as answer
 use Rattle.std.proofs.Math.Option.{Option, none, some}
 use Rattle.plan.specs.Lists.{all, within}
-use Rattle.command.specs.declared.decimal.Number.{Number}
-use Rattle.command.specs.declared.decimal.Number.TheVariants.{Is, Wrong}
 
 abbrev pub is_digit : ℕ → Bool
 is_digit c = within 48 c 57
@@ -30,6 +30,6 @@ only_if false n = none
 abbrev pub written : List ℕ → Option ℕ
 written cs = only_if (is_number cs) (value cs)
 
-abbrev pub number_in : Number → Option ℕ
-number_in (Is n) = some n
-number_in Wrong = none
+abbrev pub number_in : answer.Option ℕ → Option ℕ
+number_in (Some n) = some n
+number_in None = none

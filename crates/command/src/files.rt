@@ -1,19 +1,16 @@
 // Files of bytes that are read. Where the system refuses, standard error says why. Which bytes a file has is outside the logic.
-ghost use Rattle.output.specs.Counts.{IsPrefixLen};
-
+use crate::buffer::Buffer;
+use crate::failure::{Failure, refused_by_system};
 use crate::paths;
 use output::Streams;
 use std::fs::Files;
+use std::io;
 use std::io::{Error, Input, Read};
 
-// What was read of a file: whether it can be read, and how many bytes now stand at the start of the buffer.
-#[derive(Clone, Copy)]
-pub struct Contents {
-    pub read: bool,
-    pub size: usize,
-}
+// The name that stands for standard input.
+pub const STANDARD_INPUT: &[u8] = b"-";
 
-// What bytes are read from.
+// What bytes are read from. It is no `Option`, since standard input is no missing file.
 #[derive(Drop)]
 pub enum Source<F> {
     // Standard input.
@@ -22,103 +19,60 @@ pub enum Source<F> {
     File(F),
 }
 
-// Says on standard error why a file can't be read. The name - stands for standard input.
-fn fail<R: Streams>(rt: &R, name: &[u8], error: Error) {
-    if name == b"-".as_slice() {
-        output::fail(rt, b"standard input", error);
-    } else {
-        output::fail(rt, name, error);
+// Says on standard error why a file can't be read.
+fn unread<R: Streams>(rt: &R, name: &[u8], error: Error) -> Failure {
+    if name == STANDARD_INPUT {
+        return refused_by_system(rt, b"standard input", error);
     }
+    refused_by_system(rt, name, error)
 }
 
-// One read, of as much as there is at hand and room for; no bytes at the end of the input.
-fn read_some<R: Streams, S: Read>(rt: &R, source: &mut S, name: &[u8], buf: &mut [u8]) -> Contents
-    ensures { IsPrefixLen result.size buf.new }
-{
-    match source.read(buf) {
-        Ok(size) => Contents {
-            read: true,
-            size: size,
-        },
-        Err(e) => {
-            fail(rt, name, e);
-            Contents {
-                read: false,
-                size: 0,
-            }
-        }
-    }
-}
-
-// Reads until the buffer is full or the input ends.
-fn read_all<R: Streams, S: Read>(rt: &R, source: &mut S, name: &[u8], buf: &mut [u8]) -> Contents
-    ensures { IsPrefixLen result.size buf.new }
-{
-    let mut done = 0;
-    while done < buf.len() {
-        let more = read_some(rt, source, name, &mut buf[done..]);
-        if !more.read {
-            return Contents {
-                read: false,
-                size: done,
-            };
-        }
-        if more.size == 0 {
+// Reads until the room is full or the input ends.
+fn read_all<S: Read, const N: usize>(source: &mut S) -> io::Result<Buffer<N>> {
+    let mut room = [0u8; N];
+    let all = room.as_mut_slice();
+    let mut size = 0;
+    while size < all.len() {
+        let more = source.read(&mut all[size..])?;
+        if more == 0 {
             break;
         }
-        done += more.size;
+        size += more;
     }
-    Contents {
-        read: true,
-        size: done,
-    }
+    Ok(Buffer::of_room(room, size))
 }
 
-// Opens a file for reading, or answers nothing. The name - stands for standard input, which is open.
-pub fn open<R: Files + Streams>(rt: &R, name: &[u8]) -> Option<Source<R::File>> {
-    if name == b"-".as_slice() {
-        return Some(Source::Input);
+// Opens a file for reading. Standard input is open.
+pub fn open<R: Files + Streams>(rt: &R, name: &[u8]) -> Result<Source<R::File>, Failure> {
+    if name == STANDARD_INPUT {
+        return Ok(Source::Input);
     }
     match paths::open(rt, name) {
-        Ok(file) => Some(Source::File(file)),
-        Err(e) => {
-            fail(rt, name, e);
-            None
-        }
+        Ok(file) => Ok(Source::File(file)),
+        Err(e) => Err(unread(rt, name, e)),
     }
 }
 
-// Reads what `open` opened into the buffer, as much of it as there is room for, and closes it, unless that
-// is standard input.
-pub fn read_opened<R: Files + Input + Streams>(
+// Reads what `open` opened, as much of it as there is room for, and closes it, unless that is standard input.
+pub fn read_opened<R: Files + Input + Streams, const N: usize>(
     rt: &R,
     source: Source<R::File>,
     name: &[u8],
-    buf: &mut [u8],
-) -> Contents
-    ensures { IsPrefixLen result.size buf.new }
-{
-    match source {
-        Source::Input => {
-            let mut input = rt.reader();
-            read_all(rt, &mut input, name, buf)
-        }
-        Source::File(file) => {
-            let mut file = file;
-            read_all(rt, &mut file, name, buf)
-        }
+) -> Result<Buffer<N>, Failure> {
+    let contents = match source {
+        Source::Input => read_all(&mut rt.reader()),
+        Source::File(mut file) => read_all(&mut file),
+    };
+    match contents {
+        Ok(buffer) => Ok(buffer),
+        Err(e) => Err(unread(rt, name, e)),
     }
 }
 
-// Reads a file into the buffer, as much of it as there is room for. The name - stands for standard input.
-pub fn read<R: Files + Input + Streams>(rt: &R, name: &[u8], buf: &mut [u8]) -> Contents
-    ensures { IsPrefixLen result.size buf.new }
-{
-    match open(rt, name) {
-        Some(source) => read_opened(rt, source, name, buf),
-        None => Contents {
-            read: false,
-            size: 0,
-        },
-    }
+// Reads a file, as much of it as there is room for.
+pub fn read<R: Files + Input + Streams, const N: usize>(
+    rt: &R,
+    name: &[u8],
+) -> Result<Buffer<N>, Failure> {
+    read_opened(rt, open(rt, name)?, name)
 }

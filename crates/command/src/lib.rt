@@ -1,6 +1,9 @@
 // What the programs have in common.
 //
+//   program     how a program begins
+//   failure     why a program stops
 //   decimal     the number that a text writes
+//   buffer      bytes with a room of fixed size
 //   arguments   the words that a program is started with
 //   files       files of bytes that are read
 //   status      which file is open
@@ -15,10 +18,13 @@
 #![tactic(auto)]
 
 pub mod arguments;
+pub mod buffer;
 pub mod decimal;
+pub mod failure;
 pub mod files;
 mod paths;
 pub mod plans;
+pub mod program;
 pub mod refusals;
 mod saving;
 pub mod sheets;

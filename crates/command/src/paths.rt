@@ -1,96 +1,49 @@
 // Names of files, put together and followed along symbolic links. What the system says of a link is outside the logic.
-ghost use Rattle.std.specs.Prelude.{◌≡◌, ◌⊎◌, ◌≤◌, None, IfOk, IfErr, IsUtf8, length};
+ghost use Rattle.std.specs.Prelude.{◌≡◌, ◌⊎◌, ◌≤◌, None, IfOk, IfErr, IsUtf8, length, take};
 ghost use Rattle.std.specs.IoError.{raw_os_error};
-ghost use Rattle.output.specs.Counts.{IsPrefixLen};
-ghost use Rattle.command.specs.Paths.{Fits};
 
+use crate::buffer::Word;
 use std::fs::{Files, OpenOptions};
 use std::io::{Error, ErrorKind};
 use std::random::RandomSource;
 use std::{fs, io};
 
-// The system's error that a name is too long.
+// The system's errors that a file is not there, that it may not be opened so, that nothing can be written where it is, and that a name is too long.
+pub const ENOENT: i32 = 2;
+
+pub const EACCES: i32 = 13;
+
+pub const EROFS: i32 = 30;
+
 const ENAMETOOLONG: i32 = 36;
 
-// A name: the first `size` bytes, with zeros behind them. One of 4,096 bytes is longer than the system takes, and is refused.
-#[derive(Clone, Copy)]
-pub struct Path {
-    pub bytes: [u8; 4096],
-    pub size: usize,
-}
-
-// Where a symbolic link leads. Where a name is that of no link, `found` is false and `path` the name itself.
-#[derive(Clone, Copy)]
-pub struct Target {
-    pub found: bool,
-    pub path: Path,
-}
-
-// The name with these bytes behind it, or as many of them as there is room for.
-fn append(path: Path, more: &[u8]) -> Path
-    requires { Fits path.size path.bytes }
-    ensures { Fits result.size result.bytes }
-{
-    let mut bytes = path.bytes;
-    let mut size = path.size;
-    let mut i = 0;
-    while i < more.len() {
-        if size == 4096 {
-            break;
-        }
-        bytes[size] = more[i];
-        size += 1;
-        i += 1;
-    }
-    Path {
-        bytes: bytes,
-        size: size,
-    }
-}
+// How many symbolic links the system itself would follow.
+const MAX_LINKS: usize = 40;
 
 // A name in a folder, whose own name ends in a slash or is empty.
-fn join(folder: &[u8], name: &[u8]) -> Path
-    ensures { Fits result.size result.bytes }
-{
-    let empty = Path {
-        bytes: [0; 4096],
-        size: 0,
-    };
-    append(append(empty, folder), name)
+fn join(folder: &[u8], name: &[u8]) -> Word {
+    Word::new().append(folder).append(name)
 }
 
-// How many bytes of a name are its folder's: those up to the last slash.
-fn folder_size(name: &[u8]) -> usize
-    ensures { IsPrefixLen result name.now }
+// The name of the folder that a name is in, up to the last slash; empty where there is none.
+fn folder_of(name: &[u8]) -> &[u8]
+    ensures { result.now ≡ take (length result.now) name.now }
 {
-    let mut n = 0;
-    let mut i = 0;
-    while i < name.len() {
-        let c = name[i];
-        i += 1;
-        if c == b'/' {
-            n = i;
-        }
+    match name.iter().rposition(|byte| *byte == b'/') {
+        Some(slash) => &name[..=slash],
+        None => b"",
     }
-    n
 }
 
 // The name of something in the same folder.
-fn beside(path: &[u8], name: &[u8]) -> Path
-    ensures { Fits result.size result.bytes }
-{
-    let n = folder_size(path);
-    join(&path[..n], name)
+fn beside(path: &[u8], name: &[u8]) -> Word {
+    join(folder_of(path), name)
 }
 
 // Where the text of a symbolic link leads from the link's own name.
-fn read_from(path: &[u8], text: &[u8]) -> Path
-    ensures { Fits result.size result.bytes }
-{
-    if 0 < text.len() {
-        if text[0] == b'/' {
-            return join(&text[..0], text);
-        }
+fn read_from(path: &[u8], text: &[u8]) -> Word {
+    if text.starts_with(b"/") {
+        return join(b"", text);
     }
     beside(path, text)
 }
@@ -130,29 +83,18 @@ pub fn create<R: Files>(rt: &R, name: &[u8]) -> io::Result<R::File> {
         .open(rt, text(name)?)
 }
 
-// Where a symbolic link leads, one step. An error that is not the system's own stands for a link that can't be followed; any other name is that of
-// no link.
-fn link<R: Files + Alloc>(rt: &R, path: Path) -> io::Result<Target>
-    requires { Fits path.size path.bytes }
-    ensures ok { IfOk result (λ target. Fits target.path.size target.path.bytes) }
+// Where a symbolic link leads, one step, if the name is that of a link. An error, which is not the system's own, stands for a link that can't be
+// followed.
+fn link<R: Files + Alloc>(rt: &R, path: &[u8]) -> io::Result<Option<Word>>
     ensures not_the_systems { IfErr result (λ e. raw_os_error e ≡ None) }
 {
-    let bytes = path.bytes;
-    let size = path.size;
-    let unfollowed = Target {
-        found: false,
-        path: path,
-    };
-    let Ok(name) = text(&bytes[..size]) else {
-        return Ok(unfollowed);
+    let Ok(name) = text(path) else {
+        return Ok(None);
     };
     match fs::read_link(rt, name) {
-        Ok(to) => Ok(Target {
-            found: true,
-            path: read_from(&bytes[..size], to.as_str().as_bytes()),
-        }),
+        Ok(to) => Ok(Some(read_from(path, to.as_str().as_bytes()))),
         Err(e) => match e.raw_os_error() {
-            Some(_) => Ok(unfollowed),
+            Some(_) => Ok(None),
             None => Err(e),
         },
     }
@@ -160,19 +102,15 @@ fn link<R: Files + Alloc>(rt: &R, path: Path) -> io::Result<Target>
 
 // The name of the file that a name leads to: symbolic links are followed, as many as the system itself would follow. There is none behind a link whose
 // text is no UTF-8, nor where memory runs out.
-pub fn followed<R: Files + Alloc>(rt: &R, name: &[u8]) -> io::Result<Path>
-    ensures ok { IfOk result (λ path. Fits path.size path.bytes) }
+pub fn followed<R: Files + Alloc>(rt: &R, name: &[u8]) -> io::Result<Word>
     ensures not_the_systems { IfErr result (λ e. raw_os_error e ≡ None) }
 {
-    let mut path = join(&name[..0], name);
-    let mut links: usize = 0;
-    while links < 40 {
-        let target = link(rt, path)?;
-        path = target.path;
-        if !target.found {
-            return Ok(path);
+    let mut path = join(b"", name);
+    for _ in 0..MAX_LINKS {
+        match link(rt, path.as_bytes())? {
+            Some(target) => path = target,
+            None => return Ok(path),
         }
-        links += 1;
     }
     Ok(path)
 }
@@ -181,25 +119,20 @@ pub fn followed<R: Files + Alloc>(rt: &R, name: &[u8]) -> io::Result<Path>
 fn letters<R: RandomSource>(rt: &R) -> [u8; 16] {
     let mut drawn = [0u8; 16];
     let _ = rt.fill_bytes(&mut drawn);
-    let mut i = 0;
-    while i < 16 {
-        drawn[i] = b'a' + drawn[i] % 16;
-        i += 1;
+    for byte in &mut drawn {
+        *byte = b'a' + *byte % 16;
     }
     drawn
 }
 
 // A name for a temporary file, in the same folder.
-pub fn temporary<R: RandomSource>(rt: &R, path: &[u8]) -> Path
-    ensures { Fits result.size result.bytes }
-{
-    let drawn = letters(rt);
-    append(append(beside(path, b".planner-"), &drawn), b".tmp")
+pub fn temporary<R: RandomSource>(rt: &R, path: &[u8]) -> Word {
+    beside(path, b".planner-")
+        .append(&letters(rt))
+        .append(b".tmp")
 }
 
 // The name of the folder itself.
-pub fn folder(path: &[u8]) -> Path
-    ensures { Fits result.size result.bytes }
-{
+pub fn folder(path: &[u8]) -> Word {
     beside(path, b".")
 }

@@ -1,5 +1,6 @@
 // Files that are written whole or not at all: the bytes go to a temporary file first, which then takes the name. Where the system refuses, standard
 // error says why. What the system does is outside the logic.
+use crate::failure::{Failure, refused_by_system};
 use crate::paths;
 use output::Streams;
 use std::fs::{Files, OpenFile, Permissions};
@@ -8,46 +9,23 @@ use std::os::unix::fs::PermissionsExt;
 use std::random::RandomSource;
 use std::{fs, io};
 
-// The mode that a new file gets.
-#[derive(Clone, Copy)]
-pub enum Mode {
-    // The system's usual one.
-    Usual,
-    // That of the file that it takes the place of.
-    Kept(u32),
-}
-
-// Gives a new file its mode.
-fn give_mode<F: OpenFile>(file: &F, mode: Mode) -> io::Result<()> {
-    match mode {
-        Mode::Usual => Ok(()),
-        Mode::Kept(bits) => file.set_permissions(Permissions::from_mode(bits % 4096)),
+// Gives a new file the mode of the older one that it takes the place of. Where there is none, it keeps the system's usual one.
+fn give_mode<F: OpenFile>(file: &F, older: Option<u32>) -> io::Result<()> {
+    match older {
+        Some(mode) => file.set_permissions(Permissions::from_mode(mode % 4096)),
+        None => Ok(()),
     }
 }
 
-// Writes all bytes to a new file, down to the device.
-fn fill<F: OpenFile + Write>(file: &mut F, bytes: &[u8], mode: Mode) -> io::Result<()> {
-    give_mode(file, mode)?;
+// Writes all bytes to a new file, down to the device, and closes it.
+fn fill<F: OpenFile + Write + Drop>(
+    mut file: F,
+    bytes: &[u8],
+    older: Option<u32>,
+) -> io::Result<()> {
+    give_mode(&file, older)?;
     file.write_all(bytes)?;
     file.sync_all()
-}
-
-// The same, and closes it. Where that fails, standard error says why, under the name that the file is for.
-fn finish<R: Files + Streams>(
-    rt: &R,
-    file: R::File,
-    bytes: &[u8],
-    path: &[u8],
-    mode: Mode,
-) -> bool {
-    let mut file = file;
-    match fill(&mut file, bytes, mode) {
-        Ok(()) => true,
-        Err(e) => {
-            output::fail(rt, path, e);
-            false
-        }
-    }
 }
 
 // Has the system note on the device what names a folder holds. Not every system can, and the file is whole without it, so nothing depends on it.
@@ -69,71 +47,49 @@ fn rename<R: Files>(rt: &R, from: &[u8], to: &[u8]) -> io::Result<()> {
     fs::rename(rt, paths::text(from)?, paths::text(to)?)
 }
 
-// Writes the bytes to the temporary name, and then has that file take the other name. Where any of it fails, standard error says why, the temporary
-// file is removed, and what had the name has it still.
-fn write_by<R: Files + Streams>(
+// Writes the bytes to a new file of the temporary name, and then has that file take the other name.
+fn fill_and_rename<R: Files>(
     rt: &R,
+    file: R::File,
     temporary: &[u8],
     to: &[u8],
     bytes: &[u8],
-    mode: Mode,
-) -> bool {
-    let file = match paths::create(rt, temporary) {
-        Ok(file) => file,
-        Err(e) => {
-            output::fail(rt, to, e);
-            return false;
-        }
-    };
-    if !finish(rt, file, bytes, to, mode) {
-        remove(rt, temporary);
-        return false;
-    }
-    if let Err(e) = rename(rt, temporary, to) {
-        output::fail(rt, to, e);
-        remove(rt, temporary);
-        return false;
-    }
-    true
+    older: Option<u32>,
+) -> io::Result<()> {
+    fill(file, bytes, older)?;
+    rename(rt, temporary, to)
 }
 
-// The same with a temporary name of its own.
-fn write_at<R: Files + RandomSource + Streams>(
+// The same with a temporary name of its own. Where any of it fails, the temporary file is removed, and what had the name has it still.
+fn write_at<R: Files + RandomSource>(
     rt: &R,
     to: &[u8],
     bytes: &[u8],
-    mode: Mode,
-) -> bool {
+    older: Option<u32>,
+) -> io::Result<()> {
     let temporary = paths::temporary(rt, to);
-    let name = temporary.bytes;
-    let n = temporary.size;
-    if !write_by(rt, &name[..n], to, bytes, mode) {
-        return false;
+    let name = temporary.as_bytes();
+    let file = paths::create(rt, name)?;
+    if let Err(e) = fill_and_rename(rt, file, name, to, bytes, older) {
+        remove(rt, name);
+        return Err(e);
     }
-    let folder = paths::folder(to);
-    let name = folder.bytes;
-    let n = folder.size;
-    sync_folder(rt, &name[..n]);
-    true
+    sync_folder(rt, paths::folder(to).as_bytes());
+    Ok(())
 }
 
-// Writes a file of these bytes, in place of the one of this name if there is one. Where the name is a symbolic link, it stays, and the file that it
-// leads to is replaced. False where that fails.
+// Writes a file of these bytes, in place of the older one of this name and with its mode, if there is one. Where the name is a symbolic link, it stays,
+// and the file that it leads to is replaced.
 pub fn save<R: Files + RandomSource + Alloc + Streams>(
     rt: &R,
     path: &[u8],
     bytes: &[u8],
-    mode: Mode,
-) -> bool {
-    match paths::followed(rt, path) {
-        Ok(target) => {
-            let name = target.bytes;
-            let n = target.size;
-            write_at(rt, &name[..n], bytes, mode)
-        }
-        Err(e) => {
-            output::fail(rt, path, e);
-            false
-        }
-    }
+    older: Option<u32>,
+) -> Result<(), Failure> {
+    let target = match paths::followed(rt, path) {
+        Ok(target) => target,
+        Err(e) => return Err(refused_by_system(rt, path, e)),
+    };
+    let name = target.as_bytes();
+    write_at(rt, name, bytes, older).map_err(|e| refused_by_system(rt, name, e))
 }

@@ -1,12 +1,5 @@
 // How the program is used, in words.
-
-use output::Streams;
-
-// Prints how the program is used.
-pub fn print<R: Streams>(rt: &R) {
-    output::print(
-        rt,
-        b"usage: find_route PLAN S T SHEET [PICK [ORDER [BUDGET [MASK VALUES]]]]
+pub const USAGE: &[u8] = b"usage: find_route PLAN S T SHEET [PICK [ORDER [BUDGET [MASK VALUES]]]]
 Finds the cheapest permitted route of a depot plan, and writes its sheet.
   PLAN    the file that holds the plan; - is standard input
   S       the number of the junction where the route begins, from 1
@@ -29,6 +22,4 @@ Numbers are decimal and below 2^64. Prints one of
                                     go to standard error
 -h or --help prints this, --version the versions of the planner and its kit.
 The exit status says nothing: it is always 0.
-",
-    );
-}
+";

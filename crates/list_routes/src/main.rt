@@ -13,55 +13,26 @@
 
 mod usage;
 
-use command::arguments::Request;
-use command::{arguments, files, refusals, version};
+use command::buffer::PlanBytes;
+use command::failure::Failure;
+use command::{arguments, files, program, refusals};
 use output::Streams;
-use plan::check::Verdict;
 use std::env::Env;
 use std::fs::Files;
 use std::io::Input;
+use usage::USAGE;
 
-// Lists the routes of the plan of this name.
-fn list<R: Files + Input + Streams>(rt: &R, name: &[u8]) {
-    // Larger than any plan, so that a byte too many is seen.
-    let mut p = [0u8; 65536];
-    let contents = files::read(rt, name, &mut p);
-    let n = contents.size;
-    if contents.read {
-        let verdict = listing::print_listing(rt, &p[..n]);
-        if let Verdict::Refused(r) = verdict {
-            refusals::tell_cause(rt, r);
-        }
+// Does what the arguments ask.
+fn run<R: Env + Files + Input + Streams>(rt: &R) -> Result<(), Failure> {
+    arguments::at_most(rt, 1)?;
+    let name = arguments::input_or_standard(rt, 1, b"PLAN")?;
+    let p: PlanBytes = files::read(rt, name.as_bytes())?;
+    if let Err(r) = listing::print_listing(rt, p.as_bytes()) {
+        refusals::tell_cause(rt, r);
     }
-}
-
-// Does what the arguments ask. False where they are wrong.
-fn run<R: Env + Files + Input + Streams>(rt: &R) -> bool {
-    if !arguments::at_most(rt, 1) {
-        return false;
-    }
-    if !arguments::given(rt, 1) {
-        list(rt, b"-");
-        return true;
-    }
-    let mut name = [0u8; 4096];
-    let n = arguments::input(rt, 1, b"PLAN", &mut name);
-    if n == 0 {
-        return false;
-    }
-    list(rt, &name[..n]);
-    true
+    Ok(())
 }
 
 fn main(rt: HostRuntime) {
-    let request = arguments::requested(&rt);
-    match request {
-        Request::Usage => usage::print(&rt),
-        Request::Version => version::print(&rt, b"list_routes"),
-        Request::Work => {
-            if !run(&rt) {
-                arguments::hint(&rt, b"list_routes");
-            }
-        }
-    }
+    program::start(&rt, b"list_routes", USAGE, run);
 }

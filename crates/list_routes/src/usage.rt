@@ -1,12 +1,5 @@
 // How the program is used, in words.
-
-use output::Streams;
-
-// Prints how the program is used.
-pub fn print<R: Streams>(rt: &R) {
-    output::print(
-        rt,
-        b"usage: list_routes [PLAN]
+pub const USAGE: &[u8] = b"usage: list_routes [PLAN]
 Lists the cheapest permitted routes of a depot plan, a line for every two
 junctions s < t.
   PLAN   the file that holds the plan; - or none is standard input
@@ -19,6 +12,4 @@ For a plan that is not accepted the only line is
                                     go to standard error
 -h or --help prints this, --version the versions of the planner and its kit.
 The exit status says nothing: it is always 0.
-",
-    );
-}
+";

@@ -16,7 +16,7 @@ use Rattle.search.specs.Answers.{Request, Outcome, refused, route, nothing, spen
 use Rattle.search.proofs.AnswerOutcome.{accepted_claim}
 use Rattle.listing.specs.declared.Line.{Line}
 use Rattle.listing.specs.Lines.{blank, or_blank, read_sheet, sheet_at}
-use Rattle.listing.specs.Claims.{line, line_as, ListedClaim}
+use Rattle.listing.specs.Claims.{line, line_as, Fits, ListedClaim}
 
 -- no bytes are no sheet
 nothing_read : (out : List ℕ) → sheet_at out 0 ≡ blank
@@ -49,6 +49,13 @@ module _ (k : Request) (bytes : Bytes k.plan) (out : List ℕ) (size : length ou
     route_read : sheet_at after (length sheet) ≡ record { route = packed es; cost = c; setting = σ }
     route_read = ap (λ (t : Bool). or_blank t (read_sheet (take (length sheet) after))) long ∙ ap read_sheet front ∙ says
 
+  fits : (o : Outcome) → outcome k ≡ o → Fits o
+  fits (refused n) e = tt
+  fits (route es c σ n) e = (accepted_claim k bytes out size es c σ n e).4.short
+  fits (nothing n) e = tt
+  fits (spent n) e = tt
+  fits (paused n) e = tt
+
   listed : (o : Outcome) → outcome k ≡ o → line_by (reply_to o) (out_after o out) ≡ line_as o
   listed (refused n) e = ap (line n 0) (nothing_read out)
   listed (route es c σ n) e = ap (line 0 n) (route_read es c σ n e)
@@ -58,4 +65,4 @@ module _ (k : Request) (bytes : Bytes k.plan) (out : List ℕ) (size : length ou
 
 pub listed_claim : ListedClaim
 listed_claim k bytes out size v e =
-    ap (λ (r : Reply). line_by r (out_after (outcome k) out)) e ∙ listed k bytes out size (outcome k) refl
+    (ap (λ (r : Reply). line_by r (out_after (outcome k) out)) e ∙ listed k bytes out size (outcome k) refl, fits k bytes out size (outcome k) refl)

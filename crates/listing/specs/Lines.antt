@@ -6,7 +6,8 @@
 --   line_of v out    THE VALUES of an answer with this out buffer: its number, its count, and what its sheet says
 --
 -- `Line` is declared by the code (src/lib.rt). Assumes nothing.
-use Rattle.std.specs.Prelude.{ℕ, Bool, true, false, List, [], length, take, leb}
+use Rattle.std.specs.Prelude.{ℕ, Bool, true, false, List, [], length, take, leb, Result}
+use Rattle.plan.specs.declared.refusal.Refusal.{Refusal}
 use Rattle.route.specs.declared.sheet.Sheet.{Sheet}
 use Rattle.route.specs.Sheets.{in_form}
 use Rattle.route.specs.Values.{packed, sheet_in}
@@ -27,5 +28,5 @@ read_sheet h = or_blank (in_form h) (sheet_in h)
 abbrev pub sheet_at : List ℕ → ℕ → Sheet
 sheet_at out n = or_blank (leb n (length out)) (read_sheet (take n out))
 
-abbrev pub line_of : Answer → List ℕ → Line
+abbrev pub line_of : Result Answer Refusal → List ℕ → Line
 line_of v out = record { number = (reply_of v).number; opened = (reply_of v).opened; sheet = sheet_at out (reply_of v).size }

@@ -9,13 +9,12 @@
 --                        the room and the number of filled bytes afterwards are those after the bytes cs
 --   Failed n t t'        whether a write has failed, before (t) and after (t'): a failure stays one, and where n bytes fit into the room
 --                        nothing is written, so nothing can fail
---   GathersNumber room g cs n room' g'
+--   GathersNumber room filled t cs n room' filled' t'
 --                        both, after the bytes cs and the digits of the number n
 --
--- `Gathered` is declared by the code (src/lib.rt), `last_digits` and `IsDigitCount` stand in Digits.antt. Assumes nothing.
+-- `last_digits` and `IsDigitCount` stand in Digits.antt. Assumes nothing.
 use Rattle.std.specs.Prelude.{ℕ, ◌+◌, ◌≤◌, ◌≡◌, Bool, true, cond, List, [], ◌∷◌, ◌++◌, length, set, ltb}
 use Rattle.output.specs.Digits.{last_digits, IsDigitCount}
-use Rattle.output.specs.declared.Gathered.{Gathered}
 
 abbrev pub place_of : ℕ → ℕ
 place_of n = cond (ltb n 65536) n 0
@@ -39,8 +38,8 @@ pub record InDecimal (n : ℕ) (cs : List ℕ) : Type 0 where
 abbrev pub Failed : ℕ → Bool → Bool → Type 0
 Failed n t t' = (n ≤ 65536 → t' ≡ t) × (t ≡ true → t' ≡ true)
 
-pub record GathersNumber (room : List ℕ) (g : Gathered) (cs : List ℕ) (n : ℕ) (room' : List ℕ) (g' : Gathered) : Type 0 where
+pub record GathersNumber (room : List ℕ) (filled : ℕ) (t : Bool) (cs : List ℕ) (n : ℕ) (room' : List ℕ) (filled' : ℕ) (t' : Bool) : Type 0 where
   pub number : List ℕ
   pub decimal : InDecimal n number
-  pub gathered : Gathers room g.filled (cs ++ number) room' g'.filled
-  pub failing : Failed (g.filled + length (cs ++ number)) g.failed g'.failed
+  pub gathered : Gathers room filled (cs ++ number) room' filled'
+  pub failing : Failed (filled + length (cs ++ number)) t t'

@@ -3,7 +3,7 @@
 --   targets_of row            the chain fields of a row of the table in their order, each with the kind of record that it leads to (target_by)
 --   targets b k              those of a record of kind k
 --   links_at_by               the links of a record are those of its chain fields; in_links_at, links_at_in: a link among them
---   one_link, two_links      the links of one chain field and of two
+--   two_links                the links of two chain fields
 --   no_targets               a kind that is not in the table has no chain fields
 --   held_links               they lead where the limits' chain fields lead
 --   Well, Upward             a link leads to a later record of its kind; every link leads above the junctions
@@ -24,8 +24,9 @@ use Rattle.plan.specs.Records.{field, kind, junctions, records, Use, Any, Unused
 use Rattle.plan.specs.Refusals.{pointers}
 use Rattle.plan.specs.Limits.{chain_fields, held}
 use Rattle.plan.specs.Inner.{links_by}
+use Rattle.plan.specs.Kinds.{kinds}
 use Rattle.plan.proofs.Lists.{test, neither, each, joined_append, in_joined, joined_in, in_upto, upto_in, mem_in}
-use Rattle.plan.proofs.LineForms.{kinds, no_row, Item}
+use Rattle.plan.proofs.LineForms.{no_row, Item}
 
 -- ---- the links of a record, by its chain fields
 
@@ -61,10 +62,7 @@ pub links_at_by : (b : List ℕ) (r k : ℕ) → kind b r ≡ k → links_at b r
 unfolding links_at
 links_at_by b r k e = by_fields b r (row_at b r) fields ∙ ap (λ (n : ℕ). links_by b r (targets b n)) e
 
--- the link of one chain field, and those of two
-pub one_link : (b : List ℕ) (r f w : ℕ) → link_to r (field b r f) w ≡ links_by b r ((f, w) ∷ [])
-one_link b r f w = sym (append-nil (link_to r (field b r f) w))
-
+-- the links of two chain fields
 pub two_links : (b : List ℕ) (r : ℕ) (t u : ℕ × ℕ) → links_by b r (t ∷ []) ++ links_by b r (u ∷ []) ≡ links_by b r (t ∷ u ∷ [])
 two_links b r t u = sym (joined_append (λ (x : ℕ × ℕ). link_to r (field b r x.0) x.1) (t ∷ []) (u ∷ []))
 

@@ -1,6 +1,5 @@
 -- Following links, and the marks that it leaves (specs/Inner.antt).
 --
---   follow_zero, -far, -back, -kind, -well   what following one chain index finds, by the tests that tell it
 --   followed_as, -stop, -next                following the same links; two lists of links, one after the other
 --   followed_kind                            following the chain fields of a record's kind is following its links
 --   pass_stop, -next, marks_next             a loop that follows lists of links, one after the other
@@ -8,50 +7,20 @@
 --
 -- Assumes nothing.
 use mathlib.Core.Path.{◌≡◌, refl, sym, ◌∙◌, ap}
-use mathlib.Core.Bool.{Bool, true, false, not, ◌&&◌, ◌||◌, true≢false}
+use mathlib.Core.Bool.{Bool, true, false, not, ◌||◌, true≢false}
 use Prim.Native.Nat.{ℕ, zero, suc, ◌+◌, ◌≤◌, ◌<◌}
 use mathlib.Core.List.{List, [], ◌∷◌, ◌++◌}
 use native.Mathlib.Omega.{arith}
 use lib.ListN.{length, get_or, set, replicate, length-set, length-replicate, get_or-replicate}
 use lib.Seq.{get_or-set_same, get_or-set_other}
-use lib.Dec.{eqb, ltb}
-use borrow.Author.Tests.{eqb-true, eqb-false, eq-eqb, ne_eqb, lt-ltb, le-ltb}
+use lib.Dec.{eqb}
+use borrow.Author.Tests.{eqb-true, eqb-false, ne_eqb}
 use Rattle.plan.specs.Lists.{any, count_by, joined, upto}
-use Rattle.plan.specs.Records.{kind, records, Link, link_to, links_at}
+use Rattle.plan.specs.Records.{kind, Link, links_at}
 use Rattle.plan.specs.Refusals.{bad_link, pointers}
 use Rattle.plan.specs.Inner.{links_by, bump, mark, marked, marked_once, Followed}
 use Rattle.plan.proofs.Lists.{any_append, any_cong, upto_step, upto_end, upto_in}
-use Rattle.plan.proofs.ChainLinks.{targets, links_at_by, link}
-
--- ---- one chain index
-
-pub link_to_none : (r i k : ℕ) → i ≡ 0 → link_to r i k ≡ []
-link_to_none r i k e = ap (λ (n : ℕ). link_to r n k) e
-
-pub link_to_one : (r i k : ℕ) → (i ≡ 0 → ⊥) → link_to r i k ≡ link r i k ∷ []
-link_to_one r zero k d = absurd (d refl)
-link_to_one r (suc i) k d = refl
-
-module _ (b : List ℕ) (r i k : ℕ) where
-  pub follow_zero : i ≡ 0 → any (bad_link b) (link_to r i k) ≡ false
-  follow_zero e = ap (any (bad_link b)) (link_to_none r i k e)
-
-  module _ (d : i ≡ 0 → ⊥) where
-    -- a link is wrong if one of its three tests fails
-    tests : (x y z : Bool) → ltb i (records b) ≡ x → ltb r i ≡ y → eqb (kind b i) k ≡ z → any (bad_link b) (link_to r i k) ≡ (not (x && y && z) || false)
-    tests x y z p q s = ap (any (bad_link b)) (link_to_one r i k d) ∙ (λ j. not (p j && q j && s j) || false)
-
-    pub follow_far : records b ≤ i → any (bad_link b) (link_to r i k) ≡ true
-    follow_far h = tests false (ltb r i) (eqb (kind b i) k) (le-ltb i (records b) h) refl refl
-
-    pub follow_back : i < records b → i ≤ r → any (bad_link b) (link_to r i k) ≡ true
-    follow_back h l = tests true false (eqb (kind b i) k) (lt-ltb i (records b) h) (le-ltb r i l) refl
-
-    pub follow_kind : i < records b → r < i → (kind b i ≡ k → ⊥) → any (bad_link b) (link_to r i k) ≡ true
-    follow_kind h l n = tests true true false (lt-ltb i (records b) h) (lt-ltb r i l) (ne_eqb (kind b i) k n)
-
-    pub follow_well : i < records b → r < i → kind b i ≡ k → any (bad_link b) (link_to r i k) ≡ false
-    follow_well h l e = tests true true true (lt-ltb i (records b) h) (lt-ltb r i l) (eq-eqb (kind b i) k e)
+use Rattle.plan.proofs.ChainLinks.{targets, links_at_by}
 
 -- ---- a loop over lists of links
 

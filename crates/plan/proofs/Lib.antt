@@ -2,6 +2,7 @@
 -- LineNumbers, about plans; RecordWriting, about records; LineFirst, about lists of refusal lines; Lists, ListCounts, ListRising and WordsLists, about
 -- any lists. The others are behind them; the claims are proved in Claims. docs/NAMING.md says what the names begin with.
 pub mod Lists
+pub mod Iterators
 pub mod ListCounts
 pub mod ListRising
 pub mod RecordWriting

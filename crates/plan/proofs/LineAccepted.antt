@@ -2,7 +2,8 @@
 --
 --   unbroken, accepted_passed, passed_accepted   the two directions
 --   refused_1 .. refused_7                       the number, where a line is the first to be broken
---   accepted_room, accepted_there                what the readers need of an accepted plan
+--   accepted_room, accepted_begins, accepted_junction, accepted_there
+--                                                what the readers need of an accepted plan
 --
 -- Assumes nothing.
 use mathlib.Core.Path.{◌≡◌, refl, ◌∙◌}
@@ -10,11 +11,13 @@ use mathlib.Core.Bool.{Bool, true, false}
 use Prim.Native.Nat.{ℕ, suc, ◌+◌, ◌*◌, ◌≤◌, ◌<◌}
 use mathlib.Core.List.Memᴰ
 use mathlib.Core.List.{List, ◌∷◌}
+use native.Mathlib.Omega.{arith}
 use lib.ListN.{length, drop}
 use Rattle.plan.specs.Records.{junctions, records}
 use Rattle.plan.specs.Refusals.{broken1, broken2, broken3, broken4, broken5, broken6, broken7, plan_lines, first_broken, refusal}
 use Rattle.plan.specs.Inner.{Passed2, Passed4, Passed6}
 use Rattle.plan.specs.Claims.{Unbroken}
+use Rattle.plan.specs.Plan.{plan_of}
 use Rattle.plan.specs.Reading.{Accepted}
 use Rattle.plan.proofs.LineFirst.{on_broken, on_unbroken, passed}
 use Rattle.plan.proofs.LineForms.{there, header}
@@ -93,6 +96,15 @@ module _ (b : List ℕ) where
 -- there are records beyond the junctions
 pub accepted_room : {b : List ℕ} → Accepted b → junctions b < records b
 accepted_room {b} ok = (header b (accepted_passed b ok.unrefused).0.0.0.1).junctions_fit
+
+-- record 0 is one of them
+pub accepted_begins : {b : List ℕ} → Accepted b → 0 < records b
+accepted_begins ok = omega (arith, accepted_room ok)
+
+-- so is that of a junction
+pub accepted_junction : {b : List ℕ} → Accepted b → (j : ℕ) → j ≤ (plan_of b).junctions → j < records b
+unfolding plan_of
+accepted_junction ok j h = omega (arith, accepted_room ok)
 
 -- a record below N is there
 pub accepted_there : {b : List ℕ} → Accepted b → (i : ℕ) → i < records b → 12 * i + 12 ≤ length b

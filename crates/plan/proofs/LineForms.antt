@@ -3,8 +3,8 @@
 --   Allowed u v       a field of use u may hold v, as a fact; allowed, allow: the same as `allows`
 --   fits_fields       a record fits exactly when each of its five fields is allowed
 --   suits_as b r k     the tests of record r by the row of kind k in the table `rows`; fits_as: a record of that kind fits by them
---   kinds             the kinds in the table; no_row, other_fits: nothing is asked of any other
---   sized, few, there what line 1 says
+--   no_row            nothing is asked of a kind that is not in the table
+--   sized, few, there what line 1 says; size_fits, size_wrong: what leaves it unbroken, and what breaks it
 --   header            what line 2 says
 --   kind_low, kind_high
 --                     the kinds that line 3 lets stand at a place
@@ -14,6 +14,7 @@
 -- Assumes nothing.
 use mathlib.Core.Path.{◌≡◌, refl, sym, ap, subst, ◌∙◌}
 use mathlib.Core.Bool.{Bool, true, false, not, ◌&&◌}
+use mathlib.Core.Logic.{◌⊎◌, inl, inr}
 use Prim.Native.Nat.{ℕ, ◌+◌, ◌*◌, ◌≤◌, ◌<◌}
 use mathlib.Core.List.Memᴰ
 use mathlib.Core.List.{List, [], ◌∷◌}
@@ -23,10 +24,11 @@ use lib.Dec.{eqb, ltb}
 use borrow.Author.Tests.{eqb-true, eq-eqb, ltb-true, lt-ltb, le-leb, lt-leb, not-false}
 use Rattle.plan.specs.Bounds.{max_plan_bytes, max_records, min_plan_bytes}
 use Rattle.plan.specs.Lists.{any, all, within, mem}
-use Rattle.plan.specs.Records.{field, kind, junctions, records, Use, Any, Unused, Between, Chain, Row, Entry, rows, chosen, row_in, row_of, row_at, use_at, fields, allows, fits}
+use Rattle.plan.specs.Records.{field, kind, junctions, records, Use, Any, Unused, Between, Chain, Row, Entry, chosen, row_in, row_of, row_at, use_at, fields, allows, fits}
+pub use Rattle.plan.specs.Records.{Item, belts, rules, literals}
 use Rattle.plan.specs.Refusals.{broken1, broken2, kinds_by, right_kind}
 use Rattle.plan.specs.Limits.{Header}
-use Rattle.plan.proofs.Lists.{both, and_is, neither, within_is, is_within, each, mem_in}
+use Rattle.plan.proofs.Lists.{test, both, and_is, neither, within_is, is_within, each, mem_in}
 
 -- ---- one field
 
@@ -87,21 +89,12 @@ pub fits_as : (b : List ℕ) (r k : ℕ) → kind b r ≡ k → fits b r ≡ sui
 unfolding fits
 fits_as b r k e = ap (suits_as b r) e
 
--- the kinds in the table
-abbrev pub kinds : List ℕ
-kinds = 7 ∷ 1 ∷ 2 ∷ 3 ∷ 4 ∷ []
-
 -- a kind that is not in the table has a row that asks for nothing
 pub no_row : (k : ℕ) (es : List Entry) → any (λ (e : Entry). eqb k e.of) es ≡ false → row_in k es ≡ row_in k []
 no_row k [] h = refl
 no_row k (e ∷ es) h =
     let s = neither (eqb k e.of) (any (λ (x : Entry). eqb k x.of) es) h in
     ap (λ (t : Bool). chosen t e.row (row_in k es)) s.0 ∙ no_row k es s.1
-
-pub other_fits : (b : List ℕ) (r k : ℕ) → kind b r ≡ k → mem k kinds ≡ false → fits b r ≡ true
-unfolding row_of
-other_fits b r k e h =
-    fits_as b r k e ∙ ap (λ (row : Row). all (λ (f : ℕ). allows (use_at row f) (field b r f)) fields) (no_row k (rows (junctions b)) h)
 
 -- ---- line 1
 
@@ -127,6 +120,13 @@ there b h r l = let s = sized b h in omega arith
 pub size_fits : (b : List ℕ) → Sized b → broken1 b ≡ false
 unfolding broken1
 size_fits b s = ap not (and_is (within min_plan_bytes (length b) max_plan_bytes) (eqb (length b) (12 * records b)) (is_within min_plan_bytes (length b) max_plan_bytes s.least s.most) (eq-eqb (length b) (12 * records b) s.whole))
+
+pub size_wrong : (b : List ℕ) → (Sized b → ⊥) → broken1 b ≡ true
+size_wrong b h = go (test (broken1 b))
+  where
+    go : (broken1 b ≡ true) ⊎ (broken1 b ≡ false) → broken1 b ≡ true
+    go (inl t) = t
+    go (inr t) = absurd (h (sized b t))
 
 -- ---- line 2
 
@@ -162,12 +162,6 @@ kind_low b r h = ap (λ (t : Bool). mem (kind b r) (kinds_by t)) (le-leb r (junc
 
 pub kind_high : (b : List ℕ) (r : ℕ) → junctions b < r → right_kind b r ≡ mem (kind b r) (kinds_by false)
 kind_high b r h = ap (λ (t : Bool). mem (kind b r) (kinds_by t)) (lt-leb r (junctions b) h)
-
--- the kinds of records above the junctions, all of which stand on chains
-pub data Item : ℕ → Type 0 where
-  belts : Item 2
-  rules : Item 3
-  literals : Item 4
 
 pub item_mem : {k : ℕ} → Item k → mem k (kinds_by false) ≡ true
 item_mem belts = refl

@@ -2,6 +2,7 @@
 --
 --   right, linked     what unbroken lines say
 --   wrong_none        line 3 is unbroken if every record is of a right kind and fits
+--   not_above b j e   belt e does not lead above junction j
 --   no_bad_link       line 4 is unbroken if every link leads well and every record above J has one
 --
 -- Assumes nothing.
@@ -11,10 +12,10 @@ use Prim.Native.Nat.{ℕ, suc, ◌≤◌, ◌<◌}
 use mathlib.Core.List.Memᴰ
 use mathlib.Core.List.{List, Memᴰ}
 use native.Mathlib.Omega.{arith}
-use lib.Dec.{eqb, ltb}
+use lib.Dec.{eqb, leb, ltb}
 use borrow.Author.Tests.{eqb-true, eq-eqb, ltb-true, lt-ltb, not-false}
 use Rattle.plan.specs.Lists.{any, upto}
-use Rattle.plan.specs.Records.{kind, junctions, records, fits, Link, links}
+use Rattle.plan.specs.Records.{field, kind, junctions, records, fits, Link, links}
 use Rattle.plan.specs.Refusals.{broken3, broken4, kinds_by, right_kind, bad_link, pointers}
 use Rattle.plan.specs.Inner.{Passed4}
 use Rattle.plan.proofs.Lists.{both, and_is, neither, or_is, any_none, none_any, mem_in, in_upto, upto_in}
@@ -43,6 +44,11 @@ low b r u h = Memᴰ.eq_of_singleton (mem_in (kinds_by true) (sym (kind_low b r 
 
 high : (b : List ℕ) (r : ℕ) → junctions b < r → right_kind b r ≡ true → Item (kind b r)
 high b r u h = mem_item (sym (kind_high b r u) ∙ h)
+
+-- ---- line 5
+
+abbrev pub not_above : List ℕ → ℕ → ℕ → Bool
+not_above b j e = leb (field b e 2) j
 
 -- ---- line 4
 

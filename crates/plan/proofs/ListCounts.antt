@@ -2,9 +2,8 @@
 --
 --   length_keep            as many are kept as pass
 --   count_few              no more pass than there are; count_none: none is counted where none passes
---   count_step, keep_first, keep_rest
---                          a loop that counts r up to hi: what r adds
---   count_done, keep_done  it is over
+--   keep_first, keep_rest  a loop that counts r up to hi: what r adds
+--   keep_done              it is over
 --
 -- Assumes nothing.
 use mathlib.Core.Path.{◌≡◌, refl, ap, ◌∙◌}
@@ -41,12 +40,6 @@ count_none f (x ∷ xs) h =
 -- ---- a loop that counts r up to hi
 
 module _ (f : ℕ → Bool) (r hi : ℕ) where
-  pub count_step : r < hi → count f (upto r hi) ≡ count_by (f r) (count f (upto (r + 1) hi))
-  count_step h = ap (count f) (upto_step r hi h)
-
-  pub count_done : hi ≤ r → count f (upto r hi) ≡ 0
-  count_done h = ap (count f) (upto_end r hi h)
-
   pub keep_first : r < hi → f r ≡ true → keep f (upto r hi) ≡ r ∷ keep f (upto (r + 1) hi)
   keep_first h t = ap (keep f) (upto_step r hi h) ∙ ap (λ (s : Bool). keep_by s r (keep f (upto (r + 1) hi))) t
 

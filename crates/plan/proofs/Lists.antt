@@ -14,6 +14,7 @@ use lib.ListN.{length, get_or, length-map}
 use lib.Seq.{ext_get_or}
 use lib.Dec.{eqb, leb, ltb}
 use borrow.Author.Tests.{eqb-true, eq-eqb, ltb-true, ltb-false, leb-true, le-leb, lt-leb}
+use Rattle.std.specs.List.{list_any}
 use Rattle.plan.specs.Lists.{any, all, keep_by, keep, count_by, count, mem, joined, iota, upto, within}
 
 -- ---- Booleans
@@ -28,13 +29,6 @@ both false b h = absurd (true≢false (sym h))
 
 pub and_is : (a b : Bool) → a ≡ true → b ≡ true → (a && b) ≡ true
 and_is a b p q = λ i. p i && q i
-
--- two tests s and t, one after the other: the second decides where the first is passed, the first where it is not
-pub and_next : {x y : Bool} (s t : Bool) → s ≡ x → t ≡ y → s ≡ true → t ≡ (x && y)
-and_next {x} {y} s t p q h = q ∙ sym (ap (λ (b : Bool). b && y) (sym p ∙ h))
-
-pub and_stop : {x : Bool} (s y : Bool) → s ≡ x → s ≡ false → s ≡ (x && y)
-and_stop {x} s y p h = h ∙ sym (ap (λ (b : Bool). b && y) (sym p ∙ h))
 
 pub neither : (a b : Bool) → (a || b) ≡ false → (a ≡ false) × (b ≡ false)
 neither true b h = absurd (true≢false h)
@@ -100,12 +94,23 @@ is_within a n z l u = and_is (leb a n) (leb n z) (le-leb a n l) (le-leb n z u)
 
 -- ---- elements
 
+-- what stands at a place is an element
+pub at_member : (l : List ℕ) (i : ℕ) → i < length l → Memᴰ (get_or l i 0) l
+at_member [] i h = absurd (omega arith)
+at_member (x ∷ l) zero h = Memᴰ.head refl
+at_member (x ∷ l) (suc i) h = Memᴰ.tail (at_member l i (omega arith))
+
 -- what holds of the first and of all others holds of all
 pub each : {A : Type 0} (P : A → Type 0) {x : A} {xs : List A} → P x → ((a : A) → Memᴰ a xs → P a) → (a : A) → Memᴰ a (x ∷ xs) → P a
 each P first rest a (Memᴰ.head e) = subst P (sym e) first
 each P first rest a (Memᴰ.tail m) = rest a m
 
 -- ---- any and all
+
+-- the library's `any`, which iterators are said by
+pub any_is : {A : Type 0} (f : A → Bool) (xs : List A) → list_any f xs ≡ any f xs
+any_is f [] = refl
+any_is f (x ∷ xs) = ap (λ (t : Bool). f x || t) (any_is f xs)
 
 module _ {A : Type 0} (f : A → Bool) where
   pub all_in : {a : A} (xs : List A) → all f xs ≡ true → Memᴰ a xs → f a ≡ true
@@ -365,15 +370,6 @@ module _ {A : Type 0} (f : A → Bool) where
 -- ---- a loop that counts r up to hi, with a test at each turn
 
 module _ (f : ℕ → Bool) (r hi : ℕ) where
-  pub any_stop : r < hi → f r ≡ true → any f (upto r hi) ≡ true
-  any_stop h t = ap (any f) (upto_step r hi h) ∙ ap (λ (b : Bool). b || any f (upto (r + 1) hi)) t
-
-  pub any_next : r < hi → f r ≡ false → any f (upto (r + 1) hi) ≡ any f (upto r hi)
-  any_next h t = sym (ap (any f) (upto_step r hi h) ∙ ap (λ (b : Bool). b || any f (upto (r + 1) hi)) t)
-
-  pub any_done : hi ≤ r → any f (upto r hi) ≡ false
-  any_done h = ap (any f) (upto_end r hi h)
-
   pub all_stop : r < hi → f r ≡ false → all f (upto r hi) ≡ false
   all_stop h t = ap (all f) (upto_step r hi h) ∙ ap (λ (b : Bool). b && all f (upto (r + 1) hi)) t
 

@@ -1,7 +1,7 @@
 -- The named belts of a plan whose lines 1 to 6 are unbroken, and the marks by which the code finds them.
 --
 --   names_record     a literal of a belt names a belt record (line 6)
---   noted_step, noted_done, length_note, length_noted, length_notes
+--   noted_step, length_note, length_noted, length_notes
 --                    for the loop that marks
 --   noted_at         the mark of e is 1 where some literal names it, else 0
 --   few_named        line 7 as a number
@@ -31,7 +31,7 @@ use Rattle.plan.specs.Plan.{Belt, Plan, belt_at, belt_records, literal_by, liter
 use Rattle.plan.specs.Refusals.{broken6, broken7}
 use Rattle.plan.specs.Inner.{Passed6}
 use Rattle.plan.specs.Inner.{marked_once, names_belt, note, noted, notes}
-use Rattle.plan.proofs.Lists.{test, both, and_is, in_any, any_some, in_keep, keep_in, in_map, map_in, in_upto, upto_in, upto_step, upto_end}
+use Rattle.plan.proofs.Lists.{test, both, and_is, in_any, any_some, in_keep, keep_in, in_map, map_in, in_upto, upto_in, upto_step}
 use Rattle.plan.proofs.ListCounts.{length_keep}
 use Rattle.plan.proofs.ListRising.{Rises, upto_rises, keep_rises, rises_equal}
 use Rattle.plan.proofs.LineForms.{few, literals}
@@ -51,9 +51,6 @@ names_record b h l lo hi t =
 
 pub noted_step : (b marks : List ℕ) (l hi : ℕ) → l < hi → noted b marks (upto l hi) ≡ noted b (note (names_belt b l) marks (field b l 4)) (upto (l + 1) hi)
 noted_step b marks l hi h = ap (noted b marks) (upto_step l hi h)
-
-pub noted_done : (b marks : List ℕ) (l hi : ℕ) → hi ≤ l → noted b marks (upto l hi) ≡ marks
-noted_done b marks l hi h = ap (noted b marks) (upto_end l hi h)
 
 pub length_note : (t : Bool) (marks : List ℕ) (e : ℕ) → length (note t marks e) ≡ length marks
 length_note true marks e = length-set marks e 1

@@ -11,6 +11,8 @@
 --   literals_end, literals_next, first_literal_is, next_literal_is               the literals of a rule
 --   belt_chain_end, belt_chain_next, rule_chain_end, rule_chain_next, literal_chain_end, literal_chain_next
 --                                                                                the indices of their records
+--   chain_next, next_is                                                          the same of any kind of record that stands on chains
+--   on_belts, on_rules, on_literals                                              each number on such a chain is a record of its kind
 -- Counts:
 --   plan_sizes              1 to 256 junctions, at most 10 modes
 --   records_few, records_more
@@ -53,7 +55,7 @@ use Rattle.plan.specs.declared.read.ModeId.{ModeId}
 use Rattle.plan.specs.declared.read.Literal.{Literal}
 use Rattle.plan.specs.declared.read.Literal.TheVariants.{OfBelt, OfMode}
 use Rattle.plan.specs.Lists.{mem}
-use Rattle.plan.specs.Records.{field, kind, junctions, modes, records, IsKind}
+use Rattle.plan.specs.Records.{field, kind, junctions, modes, records, IsKind, chain}
 use Rattle.plan.specs.Plan.{Belt, Plan, plan_of, leaves, belt_at, belt_records, literal_by, literal_at, rule_at, indices_of, leaving, named}
 use Rattle.plan.specs.Limits.{Limits}
 use Rattle.plan.specs.Reading.{Accepted, Bytes, IsBelt, IsRule, IsLiteral, is_rule_at, is_literal_at}
@@ -63,7 +65,7 @@ use Rattle.plan.proofs.LineForms.{Item, belts, rules, literals, few, sized}
 use Rattle.plan.proofs.ChainLinks.{Linked}
 use Rattle.plan.proofs.ListRising.{Rises}
 use Rattle.plan.proofs.LinePassed.{linked}
-use Rattle.plan.proofs.ChainLaws.{above, chain_end, chain_few, belt_step, rule_step, literal_step, first_belt_lem, next_belt_lem, first_rule_lem, next_rule_lem, first_literal_lem, next_literal_lem, rule_chain_in, literal_chain_in, belt_reached, rule_reached, literal_reached, leaves_is, records_rise, belt_in_plan, plan_belt, leaving_chain}
+use Rattle.plan.proofs.ChainLaws.{belt_chain_in, goes_on, leads, chain_step, above, chain_end, chain_few, belt_step, rule_step, literal_step, first_belt_lem, next_belt_lem, first_rule_lem, next_rule_lem, first_literal_lem, next_literal_lem, rule_chain_in, literal_chain_in, belt_reached, rule_reached, literal_reached, leaves_is, records_rise, belt_in_plan, plan_belt, leaving_chain}
 use Rattle.plan.proofs.NamedBelts.{indices_back}
 use Rattle.plan.proofs.LineAccepted.{accepted_passed, accepted_room}
 use Rattle.plan.proofs.LineLimits.{belt_among, literal_among, limits_accepted, accepted_limits}
@@ -140,6 +142,13 @@ module _ {b : List ℕ} (ok : Accepted b) where
 
   -- ---- chains
 
+  -- of any kind of record that stands on chains
+  pub chain_next : {k : ℕ} → Item k → (i : ℕ) → IsKind b k i → chain b i ≡ i ∷ chain b (field b i 1)
+  chain_next = chain_step links
+
+  pub next_is : {k : ℕ} → Item k → (i : ℕ) → IsKind b k i → (field b i 1 ≡ 0 → ⊥) → IsKind b k (field b i 1)
+  next_is t i o some = (leads links (goes_on t o) some).1
+
   pub belt_chain_end : belt_chain b 0 ≡ []
   belt_chain_end = chain_end b
 
@@ -202,6 +211,18 @@ module _ {b : List ℕ} (ok : Accepted b) where
 
   pub next_literal_is : (l : ℕ) → IsLiteral b l → (next_literal b l ≡ 0 → ⊥) → (l < next_literal b l) × IsLiteral b (next_literal b l)
   next_literal_is = next_literal_lem links
+
+  -- ---- what stands on a chain
+
+  pub on_belts : (j : ℕ) → 1 ≤ j → j ≤ (plan_of b).junctions → (e : ℕ) → Memᴰ e (belt_chain b (first_belt b j)) → IsBelt b e
+  unfolding plan_of
+  on_belts j l u e = belt_chain_in links j e l u
+
+  pub on_rules : (r : ℕ) → Memᴰ r (rule_chain b (first_rule b)) → IsRule b r
+  on_rules = rule_chain_in links
+
+  pub on_literals : (r : ℕ) → IsRule b r → (l : ℕ) → Memᴰ l (literal_chain b (first_literal b r)) → IsLiteral b l
+  on_literals r o l = literal_chain_in links r l o
 
   -- ---- belts of the plan
 

@@ -1,7 +1,5 @@
--- The named belts among those in order (specs/Words.antt): how many there are, and what the array of places says of a belt.
+-- The named belts among those in order (specs/Words.antt): how many there are.
 --
---   code_none          a belt with the code 0 is not named
---   code_some          one with another code is, and the code is its place and one more
 --   keep_append        what is kept of two lists
 --   order_fit          there are no more belts in order than records
 --   order_few          there are fewer than max_records
@@ -15,44 +13,20 @@ use mathlib.Core.Bool.{Bool, true, false, ◌&&◌}
 use Prim.Native.Nat.{ℕ, zero, suc, ◌+◌, ◌-◌, ◌≤◌, ◌<◌}
 use mathlib.Core.List.{List, [], ◌∷◌, ◌++◌, Memᴰ}
 use native.Mathlib.Omega.{arith}
-use lib.ListN.{length, get_or, length-append, length-map}
-use lib.Dec.{eqb, ltb, leb}
+use lib.ListN.{length, length-append, length-map}
+use lib.Dec.{eqb, leb}
 use borrow.Author.Tests.{eqb-true, eqb-false, leb-true, leb-false, le-leb, lt-leb}
 use Rattle.plan.specs.Bounds.{max_named, max_records}
 use Rattle.plan.specs.Lists.{any, keep_by, keep, count_by, count, mem, upto}
 use Rattle.plan.specs.Records.{kind, junctions, records}
-use Rattle.plan.specs.Plan.{Belt, Plan, plan_of, belt_at, belt_records, indices_of, in_rule, leaving, named, place_by, place_of, place_code, places_of}
+use Rattle.plan.specs.Plan.{Belt, Plan, plan_of, belt_at, belt_records, indices_of, in_rule, leaving, named}
 use Rattle.plan.specs.Reading.{Accepted}
 use Rattle.plan.specs.Words.{in_order, is_named, named_to}
-use Rattle.plan.proofs.Lists.{never, alike, get_d_first, in_keep, keep_in, keep_map, in_map, in_mem, mem_in, length_iota, count_append}
+use Rattle.plan.proofs.Lists.{never, alike, in_keep, keep_in, keep_map, in_map, in_mem, mem_in, length_iota, count_append}
 use Rattle.plan.proofs.ListCounts.{length_keep, count_few}
 use Rattle.plan.proofs.LineForms.{few}
 use Rattle.plan.proofs.LineAccepted.{accepted_passed}
 use Rattle.plan.proofs.Reading.{belt_ends, named_few}
-
--- ---- codes
-
-module _ (ns : List ℕ) (e : ℕ) (low : e < max_records) where
-  code_at : get_or (places_of ns) e 0 ≡ place_code (place_of ns e)
-  unfolding places_of
-  code_at = get_d_first (λ (n : ℕ). place_code (place_of ns n)) max_records e 0 low
-
-  abbrev lower : ℕ
-  lower = count (λ (n : ℕ). ltb n e) ns
-
-  pub code_none : get_or (places_of ns) e 0 ≡ 0 → mem e ns ≡ false
-  code_none h = go (mem e ns) refl
-    where
-      go : (t : Bool) → mem e ns ≡ t → mem e ns ≡ false
-      go true q = absurd (omega (arith, code_at, ap (λ (t : Bool). place_code (place_by t lower)) q))
-      go false q = q
-
-  pub code_some : (get_or (places_of ns) e 0 ≡ 0 → ⊥) → (mem e ns ≡ true) × (get_or (places_of ns) e 0 - 1 ≡ count (λ (n : ℕ). ltb n e) ns)
-  code_some h = go (mem e ns) refl
-    where
-      go : (t : Bool) → mem e ns ≡ t → (mem e ns ≡ true) × (get_or (places_of ns) e 0 - 1 ≡ count (λ (n : ℕ). ltb n e) ns)
-      go true q = (q, omega (arith, code_at, ap (λ (t : Bool). place_code (place_by t lower)) q))
-      go false q = absurd (h (code_at ∙ ap (λ (t : Bool). place_code (place_by t lower)) q))
 
 -- ---- counting
 

@@ -1,7 +1,6 @@
 -- Where things stand in the arrays of a plan (specs/Words.antt): what each part of the array of numbers has, and which belt each place of the words is.
 --
---   at_member, member_at
---                      what stands at a place of a list is in it, and what is in it stands at a place
+--   member_at          what is in a list stands at a place
 --   pick               one belt for all that is made of the belts of a list
 --   rises_once         what is in a rising list stands there once
 --   named_in, word_in, rows_in
@@ -45,11 +44,6 @@ use Rattle.plan.proofs.WordsNamed.{keep_append, named_order}
 use Rattle.plan.proofs.WordsFilled.{words_at, words_first, words_all, length_starts, length_marks, length_tails, length_upto}
 
 -- ---- lists by their places
-
-pub at_member : (l : List ℕ) (i : ℕ) → i < length l → Memᴰ (get_or l i 0) l
-at_member [] i h = absurd (omega arith)
-at_member (x ∷ l) zero h = Memᴰ.head refl
-at_member (x ∷ l) (suc i) h = Memᴰ.tail (at_member l i (omega arith))
 
 pub member_at : {x : ℕ} {l : List ℕ} → Memᴰ x l → (i : ℕ) × (i < length l) × (get_or l i 0 ≡ x)
 member_at (Memᴰ.head q) = (0, omega arith, sym q)

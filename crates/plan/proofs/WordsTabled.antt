@@ -16,7 +16,7 @@ use mathlib.Core.List.{List, [], ◌++◌, map, Memᴰ}
 use native.Mathlib.Omega.{arith}
 use native.Mathlib.Numerals.{add-one}
 use lib.ListN.{length, get_or, replicate, length-map, get_or-eq_default}
-use Rattle.plan.specs.declared.named.Place.TheVariants.{At}
+use Rattle.std.specs.Prelude.{Some}
 use Rattle.plan.specs.Bounds.{max_junctions, max_named}
 use Rattle.plan.specs.Lists.{keep}
 use Rattle.plan.specs.Records.{records}
@@ -25,7 +25,7 @@ use Rattle.plan.specs.Reading.{Accepted, Bytes}
 use Rattle.plan.specs.Words.{word_of, word_head, far, is_named, is_nameless, row_of, rows_to, named_to, padded, words_in, row_numbers, start_at, mark_at, named_at}
 use Rattle.plan.specs.Tables.{Below, Rising, Sound, Word, Covered, Arc, Tabled}
 use Rattle.plan.specs.Inner.{words_to, start_of, mark_of, tail_of, tail_place_of}
-use Rattle.plan.proofs.Lists.{lt_or_le, in_keep, map_in, mem_in}
+use Rattle.plan.proofs.Lists.{at_member, lt_or_le, in_keep, map_in, mem_in}
 use Rattle.plan.proofs.ListRising.{none}
 use Rattle.plan.proofs.NamedBelts.{named_rises}
 use Rattle.plan.proofs.NamedPlaces.{at_place, place_in_lem}
@@ -34,7 +34,7 @@ use Rattle.plan.proofs.WordsParts.{belt_word, belt_parts, same_word}
 use Rattle.plan.proofs.WordsRows.{row_covers, row_rises, heads_rise}
 use Rattle.plan.proofs.WordsNamed.{order_fit, named_order, named_all}
 use Rattle.plan.proofs.WordsFilled.{length_words, words_all, rows_fit}
-use Rattle.plan.proofs.WordsPlaces.{at_member, member_at, rises_once, named_in, word_in, rows_in, named_of, mark_next, start_next, marks_rise, mark_of_lem, leaving_rises, row_at, length_numbers, named_at_lem, start_at_lem, start_past, mark_at_lem, mark_past, tails_are, places_are, Placed, belts_at, belt_at_lem}
+use Rattle.plan.proofs.WordsPlaces.{member_at, rises_once, named_in, word_in, rows_in, named_of, mark_next, start_next, marks_rise, mark_of_lem, leaving_rises, row_at, length_numbers, named_at_lem, start_at_lem, start_past, mark_at_lem, mark_past, tails_are, places_are, Placed, belts_at, belt_at_lem}
 
 -- ---- words
 
@@ -216,7 +216,7 @@ module _ {b : List ℕ} (ok : Accepted b) (n : ℕ) (numbers more : List ℕ) (a
     tail_is = λ u k e a. omega (arith, (of_arc u k e a).2.tail, a.leaves);
     place_is = λ u k e a.
         let s = (of_arc u k e a).2 in
-        place_in_lem e.index (named (plan_of b)) (mem_in (named (plan_of b)) s.is_named) ∙ ap At (sym s.place);
+        place_in_lem e.index (named (plan_of b)) (mem_in (named (plan_of b)) s.is_named) ∙ ap Some (sym s.place);
     arc_at = λ k l.
         let (u, h, first, last) = mark_of_lem (plan_of b) k (plan_of b).junctions (omega (arith, named_all_of)) in
         let (e, s) = belts_at ok n numbers more are u k h first last in

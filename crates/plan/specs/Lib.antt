@@ -2,6 +2,7 @@
 pub mod Lists
 pub mod Bounds
 pub mod Records
+pub mod Kinds
 pub mod Plan
 pub mod Refusals
 pub mod Limits

@@ -14,17 +14,16 @@
 --   named p         the belts in some rule (paper 01's "named belts"), in rising index, each once
 --   belt_id e        the belt number e, as the code has it
 --   listed ns       the named belts ns as an array of max_named places, the rest of it 0
+--   Place            a place among the named belts, counted from 0, or none
 --   place_of ns e    the place of belt e among the named belts ns, counted from 0, if it is one of them
 --   places_of ns     the places of all belt indices, as an array of max_records bytes: 0 is no place, k + 1 is place k
 --   place_in ps e    the place that such an array has for belt e
 --
 -- Not here: what bytes are refused. Assumes nothing.
-use Rattle.std.specs.Prelude.{ℕ, zero, suc, ◌+◌, ◌*◌, ◌-◌, Bool, true, false, List, [], ◌∷◌, ◌++◌, map, length, get_or, replicate, eqb, ltb}
+use Rattle.std.specs.Prelude.{ℕ, zero, suc, ◌+◌, ◌*◌, ◌-◌, Bool, true, false, List, [], ◌∷◌, ◌++◌, map, length, get_or, replicate, eqb, ltb, Option, Some, None}
 use Rattle.plan.specs.declared.read.BeltId.{BeltId}
 use Rattle.plan.specs.declared.read.Literal.{Literal}
 use Rattle.plan.specs.declared.read.Literal.TheVariants.{OfBelt, OfMode}
-use Rattle.plan.specs.declared.named.Place.{Place}
-use Rattle.plan.specs.declared.named.Place.TheVariants.{At, Unnamed}
 use Rattle.plan.specs.Lists.{any, keep, count, mem, upto}
 use Rattle.plan.specs.Bounds.{field_limit, max_records, max_named}
 use Rattle.plan.specs.Records.{field, kind, junctions, modes, records, chain}
@@ -103,24 +102,27 @@ belt_id e = record { 0 = e }
 abbrev pub listed : List ℕ → List BeltId
 listed ns = map belt_id ns ++ replicate (max_named - length ns) (belt_id 0)
 
+abbrev pub Place : Type 0
+Place = Option ℕ
+
 abbrev pub place_by : Bool → ℕ → Place
-place_by true k = At k
-place_by false k = Unnamed
+place_by true k = Some k
+place_by false k = None
 
 -- as many named belts stand before it as are lower
 abbrev pub place_of : List ℕ → ℕ → Place
 place_of ns e = place_by (mem e ns) (count (λ (n : ℕ). ltb n e) ns)
 
 abbrev pub place_code : Place → ℕ
-place_code (At k) = suc k
-place_code Unnamed = 0
+place_code (Some k) = suc k
+place_code None = 0
 
 unfoldable pub places_of : List ℕ → List ℕ
 places_of ns = map (λ (e : ℕ). place_code (place_of ns e)) (upto 0 max_records)
 
 abbrev pub code_place : ℕ → Place
-code_place zero = Unnamed
-code_place (suc k) = At k
+code_place zero = None
+code_place (suc k) = Some k
 
 abbrev pub place_in : List ℕ → ℕ → Place
 place_in places e = code_place (get_or places e 0)

@@ -150,6 +150,12 @@ links b = joined (links_at b) (upto 0 (records b))
 
 -- ---- chains
 
+-- the kinds of records that stand on chains
+pub data Item : ℕ → Type 0 where
+  belts : Item 2
+  rules : Item 3
+  literals : Item 4
+
 -- at most n indices of the chain from i on
 abbrev pub chain_of : (ℕ → ℕ) → ℕ → ℕ → List ℕ
 chain_of next zero i = []

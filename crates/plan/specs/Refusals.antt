@@ -13,13 +13,11 @@
 --   first_broken ls a         the number of the first line of ls that a breaks, or 0
 --   refusal b                that of plan_lines: "the lower number wins over the whole plan"
 --   refusal_number r          the number of the line for each case of the code's refusals, of all 16 lines (src/refusal.rt)
---   number_of v               that of the check's answer, 0 where it is accepted
+--   number_of v               that of what the code answers where it may refuse, 0 where it does not
 --
 -- A sentence means what the paper says where the lines before it are unbroken; elsewhere it decides nothing.
 -- Not here: the same limits in the paper's positive words (Limits.antt). Assumes nothing.
-use Rattle.std.specs.Prelude.{ℕ, suc, ◌*◌, Bool, true, false, not, ◌&&◌, ◌||◌, List, [], ◌∷◌, length, eqb, leb, ltb}
-use Rattle.plan.specs.declared.check.Verdict.{Verdict}
-use Rattle.plan.specs.declared.check.Verdict.TheVariants.{Accepted, Refused}
+use Rattle.std.specs.Prelude.{ℕ, suc, ◌*◌, Bool, true, false, not, ◌&&◌, ◌||◌, List, [], ◌∷◌, length, eqb, leb, ltb, Result, Ok, Err}
 use Rattle.plan.specs.declared.refusal.Refusal.{Refusal}
 use Rattle.plan.specs.declared.refusal.Refusal.TheVariants.{WrongSize, WrongHeader, WrongRecord, WrongChain, BackwardBelt, WrongLiteral, ManyNamed}
 use Rattle.plan.specs.declared.refusal.Refusal.TheVariants.{WrongEnds, WrongQuery, ShortBuffer, WrongSheet, NotARoute, WrongCost}
@@ -142,6 +140,6 @@ refusal_number UnmetRule = 14
 refusal_number WrongLock = 15
 refusal_number ShortPlanBuffer = 16
 
-abbrev pub number_of : Verdict → ℕ
-number_of Accepted = 0
-number_of (Refused r) = refusal_number r
+abbrev pub number_of : {A : Type 0} → Result A Refusal → ℕ
+number_of (Ok a) = 0
+number_of (Err r) = refusal_number r

@@ -17,7 +17,7 @@
 -- Assumes nothing.
 use Rattle.std.specs.Prelude.{◌≡◌, ℕ, suc, ◌+◌, ◌-◌, ◌≤◌, ◌<◌, true, false, length, get_or}
 use mathlib.Core.List.{List, Memᴰ}
-use Rattle.plan.specs.declared.named.Place.TheVariants.{At}
+use Rattle.std.specs.Prelude.{Some}
 use Rattle.plan.specs.Bounds.{max_junctions, max_named}
 use Rattle.plan.specs.Plan.{Belt, Plan, named, place_of}
 use Rattle.plan.specs.Words.{word_of, word_head, far, is_named, row_numbers_end, start_at, mark_at, tail_at, tail_place_at, named_at}
@@ -66,7 +66,7 @@ pub record Tabled (p : Plan) (words numbers : List ℕ) : Type 0 where
   pub once : (u v j k : ℕ) (e : Belt) → Arc p words numbers u j e → Arc p words numbers v k e → j ≡ k
   pub arc_named : (u k : ℕ) (e : Belt) → Arc p words numbers u k e → is_named p e ≡ true
   pub tail_is : (u k : ℕ) (e : Belt) → Arc p words numbers u k e → tail_at numbers k ≡ u
-  pub place_is : (u k : ℕ) (e : Belt) → Arc p words numbers u k e → place_of (named p) e.index ≡ At (tail_place_at numbers k)
+  pub place_is : (u k : ℕ) (e : Belt) → Arc p words numbers u k e → place_of (named p) e.index ≡ Some (tail_place_at numbers k)
   pub arc_at : (k : ℕ) → k < named_at numbers → (u : ℕ) × (e : Belt) × (u < p.junctions) × Arc p words numbers u k e
   pub arc_few : (u k : ℕ) (e : Belt) → Arc p words numbers u k e → k < named_at numbers
   pub named_all : named_at numbers ≡ length (named p)

@@ -1,51 +1,37 @@
 // The check of a plan: lines 1 to 7 of the refusal table.
-ghost use Rattle.std.specs.Prelude.{◌≡◌};
+ghost use Rattle.std.specs.Prelude.{◌≡◌, IfOk};
 ghost use Rattle.plan.specs.Refusals.{refusal, number_of};
 
+use crate::accepted::AcceptedPlan;
+use crate::records::Records;
 use crate::refusal::Refusal;
-use crate::{belts, chain, form, notes, refusal};
+use crate::{belts, chain, form, notes};
 
-// What the check of a plan answers: accepted, or refused by the first broken one of lines 1 to 7.
-#[derive(Clone, Copy)]
-pub enum Verdict {
-    Accepted,
-    Refused(Refusal),
-}
-
-// Checks any bytes as a plan.
-pub fn check(p: &[u8]) -> Verdict
-    ensures { number_of result ≡ refusal p.now }
+// Checks any bytes as a plan: they are accepted, or refused by the first broken one of lines 1 to 7.
+pub fn check(p: &[u8]) -> Result<AcceptedPlan<'_>, Refusal>
+    ensures number { number_of result ≡ refusal p.now }
+    ensures bytes { IfOk result (λ plan. plan.bytes.now ≡ p.now) }
 {
-    if form::wrong_size(p) {
-        return Verdict::Refused(Refusal::WrongSize);
+    let Some(plan) = Records::new(p) else {
+        return Err(Refusal::WrongSize);
+    };
+    if form::wrong_header(plan) {
+        return Err(Refusal::WrongHeader);
     }
-    if form::wrong_header(p) {
-        return Verdict::Refused(Refusal::WrongHeader);
+    if form::wrong_record(plan) {
+        return Err(Refusal::WrongRecord);
     }
-    if form::wrong_record(p) {
-        return Verdict::Refused(Refusal::WrongRecord);
+    if chain::wrong_chain(plan) {
+        return Err(Refusal::WrongChain);
     }
-    if chain::wrong_chain(p) {
-        return Verdict::Refused(Refusal::WrongChain);
+    if belts::backward_belt(plan) {
+        return Err(Refusal::BackwardBelt);
     }
-    if belts::backward_belt(p) {
-        return Verdict::Refused(Refusal::BackwardBelt);
+    if belts::wrong_literal(plan) {
+        return Err(Refusal::WrongLiteral);
     }
-    if belts::wrong_literal(p) {
-        return Verdict::Refused(Refusal::WrongLiteral);
+    if notes::many_named(plan) {
+        return Err(Refusal::ManyNamed);
     }
-    if notes::many_named(p) {
-        return Verdict::Refused(Refusal::ManyNamed);
-    }
-    Verdict::Accepted
-}
-
-// The paper's number of a verdict, 0 where the plan is accepted.
-pub fn number(v: Verdict) -> u8
-    ensures { result ≡ number_of v }
-{
-    match v {
-        Verdict::Accepted => 0,
-        Verdict::Refused(r) => refusal::number(r),
-    }
+    Ok(AcceptedPlan { bytes: plan.bytes })
 }

@@ -2,10 +2,12 @@
 //
 //   bounds   the limits of the format, by name
 //   refusal  the lines of the refusal table
-//   record   fields of 12-byte records, read and written
+//   accepted the bytes of an accepted plan
+//   record   fields of 12-byte records, read and written, and the kinds of records
+//   records  the bytes of a plan of a right size (line 1), as records
 //   table    what each kind of record holds in its unused and ranged fields
 //   check    the check of a plan, out of lines 1 to 7 of the refusal table:
-//   form     lines 1 to 3, a record at a time
+//   form     lines 2 and 3, a record at a time
 //   chain    line 4, the chain indices
 //   belts    lines 5 and 6, belts and literals
 //   notes    line 7, the marks of the named belts
@@ -14,6 +16,7 @@
 //   words    its belts as words, by the junction that they leave
 #![tactic(auto)]
 
+pub mod accepted;
 mod belts;
 pub mod bounds;
 mod chain;
@@ -23,6 +26,7 @@ pub mod named;
 mod notes;
 pub mod read;
 pub mod record;
+mod records;
 pub mod refusal;
 mod table;
 pub mod words;

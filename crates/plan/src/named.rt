@@ -1,92 +1,99 @@
 // The named belts of an accepted plan: those in some rule. Their list, and the place of each belt among them.
-ghost use Rattle.std.specs.Prelude.{◌≡◌, List, ℕ, ◌<◌, length, replicate};
-ghost use Rattle.plan.specs.Bounds.{max_records};
-ghost use Rattle.plan.specs.Plan.{plan_of, named, listed, places_of, place_in};
-ghost use Rattle.plan.specs.Reading.{Accepted};
+ghost use Rattle.std.specs.Prelude.{◌≡◌, IfSome, List, ℕ, ◌<◌, length, replicate, take, map};
+ghost use Rattle.plan.specs.Bounds.{max_records, max_named};
+ghost use Rattle.plan.specs.Plan.{plan_of, named, listed, places_of, place_in, place_of, belt_id};
+ghost use Rattle.plan.specs.Reading.{Accepted, IsBelt};
 
+use crate::accepted::AcceptedPlan;
 use crate::bounds::{MAX_NAMED, MAX_RECORDS};
+use crate::notes;
 use crate::read::BeltId;
-use crate::{notes, record};
 
-// The named belts in rising order; the rest of the array is BeltId(0).
+// The named belts of an accepted plan in rising order; the rest of the array is BeltId(0). The planner has no heap, so the array has room for all.
 #[derive(Clone, Copy)]
-pub struct Named {
+pub struct Named<'a> {
+    pub plan: AcceptedPlan<'a>,
     pub count: usize,
     pub belts: [BeltId; MAX_NAMED],
+    pub ghost counted: { count ≡ length (named (plan_of plan.bytes.now)) },
+    pub ghost listed: { belts ≡ listed (named (plan_of plan.bytes.now)) },
 }
 
-// The place of a belt among the named belts, counted from 0.
+// An accepted plan with the array of the places of its named belts. A place is a byte there, one more than it is and 0 for none, as `places_of` has it,
+// by which docs/CLAIMS.md says what a prepared plan is.
 #[derive(Clone, Copy)]
-pub enum Place {
-    At(usize),
-    Unnamed,
+pub struct PlacedPlan<'a> {
+    pub plan: AcceptedPlan<'a>,
+    pub places: &'a [u8; MAX_RECORDS],
+    pub ghost placed: { places.now ≡ places_of (named (plan_of plan.bytes.now)) },
 }
 
-// The named belts of an accepted plan.
-pub fn named_belts(p: &[u8]) -> Named
-    requires { Accepted p.now }
-    ensures { (result.count ≡ length (named (plan_of p.now)))
-        × (result.belts ≡ listed (named (plan_of p.now))) }
-{
-    let mut marks = [0u8; MAX_RECORDS];
-    notes::note_named(p, &mut marks);
-    let n = record::records(p);
-    let mut belts = [BeltId(0); MAX_NAMED];
-    let mut count = 0;
-    let mut e = 0;
-    while e < n {
-        if marks[e] == 1 {
-            belts[count] = BeltId(e as u16);
-            count += 1;
+impl<'a> PlacedPlan<'a> {
+    // The place of a belt among the named belts, counted from 0.
+    pub fn place_of(self, belt: BeltId) -> Option<usize>
+        requires { IsBelt self.plan.bytes.now belt.0 }
+        ensures place { result ≡ place_of (named (plan_of self.entry.plan.bytes.now)) belt.0 }
+        ensures low { IfSome result (λ k. k < max_named) }
+    {
+        usize::from(self.places[usize::from(belt.0)]).checked_sub(1)
+    }
+}
+
+impl<'a> Named<'a> {
+    pub fn belts(&self) -> &[BeltId]
+        ensures { result.now ≡ map belt_id (named (plan_of self.now.plan.bytes.now)) }
+    {
+        &self.belts[..self.count]
+    }
+
+    // Fills the array in which `place_of` looks places up: for each belt its place among the named belts. The array is all 0 before.
+    pub fn fill_places(&self, places: &mut [u8; MAX_RECORDS])
+        requires { places.old ≡ replicate max_records 0 }
+        ensures { places.new ≡ places_of (named (plan_of self.now.plan.bytes.now)) }
+    {
+        for (k, belt) in self.belts().iter().enumerate() {
+            places[usize::from(belt.0)] = (k + 1) as u8;
         }
-        e += 1;
-    }
-    Named {
-        count: count,
-        belts: belts,
     }
 }
 
-// Fills the array in which `place_of` looks places up: for each belt its place among the named belts of an accepted plan. `list` is what
-// `named_belts` answers; the array is all 0 before. What is filled is said of every plan whose list it is.
-pub fn places_among(list: Named, places: &mut [u8; MAX_RECORDS])
-    requires { ((b : List ℕ)
-        × Accepted b
-        × (list.count ≡ length (named (plan_of b)))
-        × (list.belts ≡ listed (named (plan_of b))))
-        × (places.old ≡ replicate max_records 0) }
-    ensures { (b : List ℕ)
-        → Accepted b
-        → list.count ≡ length (named (plan_of b))
-        → list.belts ≡ listed (named (plan_of b))
-        → places.new ≡ places_of (named (plan_of b)) }
-{
-    let mut k = 0;
-    while k < list.count {
-        let belt = list.belts[k];
-        k += 1;
-        places[belt.0 as usize] = k as u8;
+impl<'a> AcceptedPlan<'a> {
+    // The named belts.
+    pub fn named_belts(self) -> Named<'a>
+        ensures { result.plan.bytes.now ≡ self.entry.bytes.now }
+    {
+        let mut marks = [0u8; MAX_RECORDS];
+        notes::note_named(self.bytes, &mut marks);
+        let n = self.records();
+        let mut belts = [BeltId(0); MAX_NAMED];
+        let mut count = 0;
+        for e in 0..n {
+            if marks[e] == 1 {
+                belts[count] = BeltId(e as u16);
+                count += 1;
+            }
+        }
+        Named {
+            plan: self,
+            count,
+            belts,
+        }
+    }
+
+    // The places of all belts among the named belts.
+    pub fn named_places(self) -> [u8; MAX_RECORDS]
+        ensures { result ≡ places_of (named (plan_of self.entry.bytes.now)) }
+    {
+        let mut places = [0u8; MAX_RECORDS];
+        self.named_belts().fill_places(&mut places);
+        places
     }
 }
 
-// The places of all belts among the named belts of an accepted plan.
-pub fn named_places(p: &[u8]) -> [u8; MAX_RECORDS]
-    requires { Accepted p.now }
-    ensures { result ≡ places_of (named (plan_of p.now)) }
-{
-    let mut places = [0u8; MAX_RECORDS];
-    places_among(named_belts(p), &mut places);
-    places
-}
-
-// Looks up the place of a belt in the array that `named_places` makes.
-pub fn place_of(places: &[u8], belt: BeltId) -> Place
+// Looks up the place of a belt among the named belts, counted from 0, in the array that `named_places` makes.
+pub fn place_of(places: &[u8], belt: BeltId) -> Option<usize>
     requires { belt.0 < length places.now }
     ensures { result ≡ place_in places.now belt.0 }
 {
-    let code = places[belt.0 as usize];
-    if code == 0 {
-        return Place::Unnamed;
-    }
-    Place::At(code as usize - 1)
+    usize::from(places[usize::from(belt.0)]).checked_sub(1)
 }

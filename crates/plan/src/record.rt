@@ -1,26 +1,60 @@
 // Fields of 12-byte records (paper 01, "Plan bytes"): how they are read, and how they are written.
 ghost use Rattle.std.specs.Prelude.{◌≡◌, ◌+◌, ◌*◌, ◌<◌, ◌≤◌, length};
 ghost use Rattle.plan.specs.Bounds.{record_bytes, field_limit};
-ghost use Rattle.plan.specs.Records.{field, records, field_bytes, record_of, placed};
+ghost use Rattle.plan.specs.Lists.{joined};
+ghost use Rattle.plan.specs.Records.{field, records, field_bytes, placed};
+ghost use Rattle.plan.specs.Kinds.{kind_number, Decodes};
 
 use crate::bounds::RECORD_BYTES;
 
-// The kinds of records, field 0.
-pub const JUNCTION: u16 = 1;
+// The kinds of records. The number of its kind stands in field 0 of a record.
+#[derive(Clone, Copy, Debug, PartialEq, Eq)]
+pub enum Kind {
+    Junction = 1,
+    Belt = 2,
+    Rule = 3,
+    Literal = 4,
+    Header = 7,
+}
 
-pub const BELT: u16 = 2;
+impl From<Kind> for u16 {
+    ghost from_gives = { λ k n. n ≡ kind_number k };
 
-pub const RULE: u16 = 3;
+    fn from(kind: Kind) -> u16 {
+        kind as u16
+    }
+}
 
-pub const LITERAL: u16 = 4;
+// The numbers of the kinds.
+pub const JUNCTION: u16 = Kind::Junction as u16;
 
-pub const HEADER: u16 = 7;
+pub const BELT: u16 = Kind::Belt as u16;
 
-fn wide(x: u8) -> u16
-    ensures { (result ≡ x)
-        × (result < 256) }
-{
-    x as u16
+pub const RULE: u16 = Kind::Rule as u16;
+
+pub const LITERAL: u16 = Kind::Literal as u16;
+
+pub const HEADER: u16 = Kind::Header as u16;
+
+// A number that no kind has.
+#[derive(Clone, Copy, Debug, PartialEq, Eq)]
+pub struct UnknownKind(pub u16);
+
+impl TryFrom<u16> for Kind {
+    type Error = UnknownKind;
+
+    ghost try_from_gives = { Decodes };
+
+    fn try_from(number: u16) -> Result<Self, UnknownKind> {
+        match number {
+            1 => Ok(Kind::Junction),
+            2 => Ok(Kind::Belt),
+            3 => Ok(Kind::Rule),
+            4 => Ok(Kind::Literal),
+            7 => Ok(Kind::Header),
+            _ => Err(UnknownKind(number)),
+        }
+    }
 }
 
 // Field f of record r, high byte first.
@@ -30,16 +64,8 @@ pub fn field(p: &[u8], r: usize, f: usize) -> u16
     ensures { result ≡ field p.now r f }
 {
     let at = RECORD_BYTES * r + 2 * f;
-    let high = wide(p[at]);
-    let low = wide(p[at + 1]);
-    high * 256 + low
-}
-
-fn wide16(x: u16) -> usize
-    ensures { (result ≡ x)
-        × (result < field_limit) }
-{
-    x as usize
+    // Not u16::from_be_bytes: the compiler then compares fields with constants whose bytes are exchanged, and a check takes a fifth longer.
+    u16::from(p[at]) * 256 + u16::from(p[at + 1])
 }
 
 // Field f of record r, as an index or a count.
@@ -49,7 +75,7 @@ pub fn index(p: &[u8], r: usize, f: usize) -> usize
     ensures { (result ≡ field p.now r f)
         × (result < field_limit) }
 {
-    wide16(field(p, r, f))
+    usize::from(field(p, r, f))
 }
 
 // N, the count of records.
@@ -66,20 +92,15 @@ pub fn put_field(out: &mut [u8], at: usize, f: u16)
     requires { at + 2 ≤ length out.old }
     ensures { out.new ≡ placed out.old at (field_bytes f) }
 {
-    out[at] = (f / 256) as u8;
-    out[at + 1] = (f % 256) as u8;
+    out[at..at + 2].copy_from_slice(&f.to_be_bytes());
 }
 
-// Writes record i, all six fields.
-pub fn put_record(out: &mut [u8], i: usize, f0: u16, f1: u16, f2: u16, f3: u16, f4: u16, f5: u16)
+// Writes record i, its six fields.
+pub fn put_record(out: &mut [u8], i: usize, fields: [u16; 6])
     requires { record_bytes * i + record_bytes ≤ length out.old }
-    ensures { out.new ≡ placed out.old (record_bytes * i) (record_of f0 f1 f2 f3 f4 f5) }
+    ensures { out.new ≡ placed out.old (record_bytes * i) (joined field_bytes fields) }
 {
-    let at = RECORD_BYTES * i;
-    put_field(out, at, f0);
-    put_field(out, at + 2, f1);
-    put_field(out, at + 4, f2);
-    put_field(out, at + 6, f3);
-    put_field(out, at + 8, f4);
-    put_field(out, at + 10, f5);
+    for (f, &value) in fields.iter().enumerate() {
+        put_field(out, RECORD_BYTES * i + 2 * f, value);
+    }
 }

@@ -1,9 +1,9 @@
 // The lines of the refusal table, one case for each. Whatever the planner refuses, it refuses with one of these.
 ghost use Rattle.std.specs.Prelude.{◌≡◌};
-ghost use Rattle.plan.specs.Refusals.{refusal_number};
+ghost use Rattle.plan.specs.Refusals.{refusal_number, number_of};
 
 // Why something is refused: the first broken line of the table.
-#[derive(Clone, Copy)]
+#[derive(Clone, Copy, Debug, PartialEq, Eq)]
 pub enum Refusal {
     // 1: the plan has a wrong size.
     WrongSize,
@@ -40,25 +40,37 @@ pub enum Refusal {
 }
 
 // The line's number in the table.
-pub fn number(r: Refusal) -> u8
-    ensures { result ≡ refusal_number r }
+impl From<Refusal> for u8 {
+    ghost from_gives = { λ r n. n ≡ refusal_number r };
+
+    fn from(r: Refusal) -> u8 {
+        match r {
+            Refusal::WrongSize => 1,
+            Refusal::WrongHeader => 2,
+            Refusal::WrongRecord => 3,
+            Refusal::WrongChain => 4,
+            Refusal::BackwardBelt => 5,
+            Refusal::WrongLiteral => 6,
+            Refusal::ManyNamed => 7,
+            Refusal::WrongEnds => 8,
+            Refusal::WrongQuery => 9,
+            Refusal::ShortBuffer => 10,
+            Refusal::WrongSheet => 11,
+            Refusal::NotARoute => 12,
+            Refusal::WrongCost => 13,
+            Refusal::UnmetRule => 14,
+            Refusal::WrongLock => 15,
+            Refusal::ShortPlanBuffer => 16,
+        }
+    }
+}
+
+// The number of an answer: that of the broken line, or 0 where nothing is refused.
+pub fn number<T: Copy>(answer: Result<T, Refusal>) -> u8
+    ensures { result ≡ number_of answer }
 {
-    match r {
-        Refusal::WrongSize => 1,
-        Refusal::WrongHeader => 2,
-        Refusal::WrongRecord => 3,
-        Refusal::WrongChain => 4,
-        Refusal::BackwardBelt => 5,
-        Refusal::WrongLiteral => 6,
-        Refusal::ManyNamed => 7,
-        Refusal::WrongEnds => 8,
-        Refusal::WrongQuery => 9,
-        Refusal::ShortBuffer => 10,
-        Refusal::WrongSheet => 11,
-        Refusal::NotARoute => 12,
-        Refusal::WrongCost => 13,
-        Refusal::UnmetRule => 14,
-        Refusal::WrongLock => 15,
-        Refusal::ShortPlanBuffer => 16,
+    match answer {
+        Ok(_) => 0,
+        Err(r) => u8::from(r),
     }
 }

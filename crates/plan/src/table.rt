@@ -1,72 +1,52 @@
 // The unused and ranged fields of each kind of record: the table `rows` of specs/Records.antt as a `match` with an arm for each kind. A loop over a
 // row that is looked up would take most of the time of a check. The chain indices of the rows are followed in chain.rt.
-ghost use Rattle.std.specs.Prelude.{◌≡◌, ◌&&◌, ◌+◌, ◌*◌, ◌<◌, ◌≤◌, length, eqb};
-ghost use Rattle.plan.specs.Bounds.{record_bytes};
+ghost use Rattle.std.specs.Prelude.{◌≡◌, ◌&&◌, ◌+◌, ◌<◌, eqb};
 ghost use Rattle.plan.specs.Lists.{within};
 ghost use Rattle.plan.specs.Records.{field, fits};
+ghost use Rattle.plan.specs.Kinds.{kind_number};
 
-use crate::bounds::{FIELD_LIMIT, MAX_JUNCTIONS, MAX_MODES};
-use crate::record;
-use crate::record::{BELT, HEADER, JUNCTION, LITERAL, RULE};
+use crate::bounds::{MAX_JUNCTIONS, MAX_MODES};
+use crate::record::Kind;
+use crate::records::Records;
 
 // Whether fields f and f + 1 of record r are zero: one test of both as one number.
-fn zeros(p: &[u8], r: usize, f: usize) -> bool
-    requires { (f < 5)
-        × (record_bytes * r + record_bytes ≤ length p.now) }
-    ensures { result ≡ (eqb (field p.now r f) 0 && eqb (field p.now r (f + 1)) 0) }
+fn zeros(plan: Records<'_>, r: usize, f: usize) -> bool
+    requires record { r < plan.count }
+    requires field { f < 5 }
+    ensures { result ≡ (eqb (field plan.entry.bytes.now r f) 0 && eqb (field plan.entry.bytes.now r (f + 1)) 0) }
 {
-    record::index(p, r, f) * FIELD_LIMIT + record::index(p, r, f + 1) == 0
+    plan.field(r, f) | plan.field(r, f + 1) == 0
 }
 
 // Whether field f of record r is from a to z.
-fn ranged(p: &[u8], r: usize, f: usize, a: u16, z: u16) -> bool
-    requires { (f < 6)
-        × (record_bytes * r + record_bytes ≤ length p.now) }
-    ensures { result ≡ within a (field p.now r f) z }
+fn ranged(plan: Records<'_>, r: usize, f: usize, a: u16, z: u16) -> bool
+    requires record { r < plan.count }
+    requires field { f < 6 }
+    ensures { result ≡ within a (field plan.entry.bytes.now r f) z }
 {
-    let value = record::field(p, r, f);
-    a <= value && value <= z
+    (a..=z).contains(&plan.field(r, f))
 }
 
-// Whether both tests are passed. Both are evaluated, so that there is no branch for each of them.
-fn both(a: bool, b: bool) -> bool
-    ensures { result ≡ (a && b) }
-{
-    a && b
-}
-
-// Whether field f of record r is zero.
-fn zero(p: &[u8], r: usize, f: usize) -> bool
-    requires { (f < 6)
-        × (record_bytes * r + record_bytes ≤ length p.now) }
-    ensures { result ≡ eqb (field p.now r f) 0 }
-{
-    record::field(p, r, f) == 0
-}
-
-// Whether the unused and ranged fields of record r are as the row of its kind wants them. Nothing is asked of a kind that is not in the table.
-pub fn fits(p: &[u8], junctions: u16, kind: u16, r: usize) -> bool
-    requires { (junctions ≡ field p.now 0 1)
-        × (kind ≡ field p.now r 0)
-        × (record_bytes * r + record_bytes ≤ length p.now) }
-    ensures { result ≡ fits p.now r }
+// Whether the unused and ranged fields of record r are as the row of its kind wants them. All tests of an arm are evaluated, so that there is no
+// branch for each of them.
+pub fn fits(plan: Records<'_>, junctions: u16, kind: Kind, r: usize) -> bool
+    requires record { r < plan.count }
+    requires junctions { junctions ≡ field plan.bytes.now 0 1 }
+    requires kind { kind_number kind ≡ field plan.bytes.now r 0 }
+    ensures { result ≡ fits plan.entry.bytes.now r }
 {
     match kind {
-        HEADER => both(
-            both(
-                ranged(p, r, 1, 1, MAX_JUNCTIONS as u16),
-                ranged(p, r, 2, 0, MAX_MODES as u16),
-            ),
-            zero(p, r, 5),
-        ),
-        JUNCTION => both(zeros(p, r, 2), zeros(p, r, 4)),
+        Kind::Header => {
+            ranged(plan, r, 1, 1, MAX_JUNCTIONS as u16)
+                & ranged(plan, r, 2, 0, MAX_MODES as u16)
+                & (plan.field(r, 5) == 0)
+        }
+        Kind::Junction => zeros(plan, r, 2) & zeros(plan, r, 4),
         // Field 5 first: behind the range, the compiler would join the end of this arm to that of literals, by a jump more.
-        BELT => both(zero(p, r, 5), ranged(p, r, 2, 1, junctions)),
-        RULE => both(zero(p, r, 3), zeros(p, r, 4)),
-        LITERAL => both(
-            both(ranged(p, r, 2, 0, 1), ranged(p, r, 3, 0, 1)),
-            zero(p, r, 5),
-        ),
-        _ => true,
+        Kind::Belt => (plan.field(r, 5) == 0) & ranged(plan, r, 2, 1, junctions),
+        Kind::Rule => (plan.field(r, 3) == 0) & zeros(plan, r, 4),
+        Kind::Literal => {
+            ranged(plan, r, 2, 0, 1) & ranged(plan, r, 3, 0, 1) & (plan.field(r, 5) == 0)
+        }
     }
 }

@@ -12,6 +12,7 @@ pub mod SubproblemEnforced
 pub mod RelaxBound
 pub mod RelaxOnward
 pub mod MaskFixings
+pub mod MaskRoute
 pub mod MaskChoices
 pub mod RelaxAnswer
 pub mod WaysWords
@@ -40,5 +41,6 @@ pub mod SheetWriting
 pub mod SheetForm
 pub mod SheetLines
 pub mod SheetSolutions
+pub mod Iterators
 pub mod Claims
 pub mod Laws

@@ -11,7 +11,7 @@ use mathlib.Core.Option.{Option, none, some}
 use Prim.Native.Nat.{ℕ, ◌^◌, ◌<◌}
 use mathlib.Core.List.{List, Memᴰ}
 use lib.ListN.{length, get_or}
-use Rattle.plan.specs.declared.named.Place.TheVariants.{At}
+use Rattle.std.specs.Prelude.{Some}
 use Rattle.plan.specs.Bounds.{max_records}
 use Rattle.plan.specs.Lists.{mem}
 use Rattle.plan.specs.Plan.{Belt, plan_of, named, place_of}
@@ -32,7 +32,7 @@ bit_law b m k l =
     let ns = named (plan_of b) in
     let (e, i, q) = place_at (named_rises b) k l in
     let here : get_or ns k 0 ≡ e = sym (ap (λ (j : ℕ). get_or ns j 0) q) ∙ (at_place e (named_rises b) i).0 in
-    ap (λ (n : ℕ). mem n (fixed_in ns m)) here ∙ fixed_mem ns m e ∙ ap (in_mask m) (place_in_lem e ns i ∙ ap (λ (j : ℕ). At j) q)
+    ap (λ (n : ℕ). mem n (fixed_in ns m)) here ∙ fixed_mem ns m e ∙ ap (in_mask m) (place_in_lem e ns i ∙ ap (λ (j : ℕ). Some j) q)
 
 module _ {b : List ℕ} (ok : Accepted b) (es : List ℕ) (all : (e : ℕ) → Memᴰ e es → Memᴰ e (named (plan_of b))) where
   abbrev ns : List ℕ

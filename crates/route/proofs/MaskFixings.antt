@@ -28,8 +28,8 @@ use lib.Bits.{bit_and, bit_or, or_lt}
 use lib.ListN.{length, get_or}
 use lib.Dec.{eqb, ltb}
 use borrow.Author.Tests.{eqb-true, eq-eqb, ne_eqb}
-use Rattle.plan.specs.declared.named.Place.{Place}
-use Rattle.plan.specs.declared.named.Place.TheVariants.{At, Unnamed}
+use Rattle.plan.specs.Plan.{Place}
+use Rattle.std.specs.Prelude.{Some, None}
 use Rattle.plan.specs.Bounds.{max_records}
 use Rattle.plan.specs.Lists.{count, mem}
 use Rattle.plan.specs.Plan.{plan_of, indices_of, named, place_by, place_of, places_of, place_in}
@@ -90,7 +90,7 @@ module _ {b : List ℕ} (ok : Accepted b) where
 
 module _ (ns : List ℕ) (a c e : ℕ) where
   -- what holds of masks at each place, and where there is none, holds of them at the place of a belt
-  by_place : (P : Place → Type 0) → ((k : ℕ) → P (At k)) → P Unnamed → P (place_of ns e)
+  by_place : (P : Place → Type 0) → ((k : ℕ) → P (Some k)) → P None → P (place_of ns e)
   by_place P at none = go (mem e ns)
     where
       go : (t : Bool) → P (place_by t (count (λ (n : ℕ). ltb n e) ns))
@@ -134,7 +134,7 @@ module _ {ns : List ℕ} (rises : Rises ns) where
   masks_equal a c h k same =
       bits_equal (length ns) a c h k (λ j l.
       let (e, m, q) = place_at rises j l in
-      let at : place_of ns e ≡ At j = place_in_lem e ns m ∙ ap (λ (n : ℕ). At n) q in
+      let at : place_of ns e ≡ Some j = place_in_lem e ns m ∙ ap (λ (n : ℕ). Some n) q in
       sym (ap (in_mask a) at) ∙ same e m ∙ ap (in_mask c) at)
 
   -- a mask with any belt in it has that belt, if it is a named one, and those that it had

@@ -28,7 +28,7 @@ module _ {b : List ℕ} (ok : Accepted b) (s t : ℕ) (r : List Belt) (h : IsRou
   few = omega (arith, route_few ok s t r low high h, length-map r (λ (e : Belt). e.index))
 
   known : Known b (packed (indices_of r))
-  known = record { few = few; belts = belts }
+  known = record { belts = belts }
     where
       belts : (e : ℕ) → Memᴰ e (ids_of (packed (indices_of r))) → IsBelt b e
       belts e m =
@@ -51,6 +51,7 @@ answer_law b ok bytes s t low high x r q =
     let h = few ok s t r i low high in
     let cheap = route_cheap ok bytes s t r high i in
     record {
+      few = omega (arith, length-map r (λ (e : Belt). e.index));
       cheap = cheap;
       within = at_most_some unbounded (some r) (omega arith);
       known = known ok s t r i low high;

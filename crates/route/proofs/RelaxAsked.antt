@@ -18,7 +18,7 @@ use lib.ListN.{length}
 use lib.Dec.{ltb}
 use lib.Pow.{pow_pos}
 use borrow.Author.Tests.{ltb-true, lt-ltb}
-use Rattle.plan.specs.declared.named.Place.TheVariants.{At}
+use Rattle.std.specs.Prelude.{Some}
 use Rattle.plan.specs.Lists.{count, mem}
 use Rattle.plan.specs.Plan.{Belt, plan_of, named, place_by, place_of, place_in}
 use Rattle.plan.specs.Words.{tail_place_at, named_at}
@@ -65,7 +65,7 @@ module _ {b words numbers places : List ℕ} (g : Graph b words numbers places) 
             let (needed, shut) = both (bit f.required k) (bit f.forbidden k)
             (sym (and_set f.required f.forbidden k) ∙ lowest_set 64 mask (omega (arith, named_few g.accepted))) in
             let (e, i, at) = place_at (named_rises b) k under in
-            let place : place_of ns e ≡ At k = place_in_lem e ns i ∙ ap (λ (n : ℕ). At n) at in
+            let place : place_of ns e ≡ Some k = place_in_lem e ns i ∙ ap (λ (n : ℕ). Some n) at in
             let (has, lacks) = admits_is (subproblem_in b f) q a in
             never (has e (in_keep (fixes ns f.required) ns i (ap (in_mask f.required) place ∙ needed)))
             (lacks e (in_keep (fixes ns f.forbidden) ns i (ap (in_mask f.forbidden) place ∙ shut)))

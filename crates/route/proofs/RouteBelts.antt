@@ -5,23 +5,26 @@
 --   first_more          one more of them is one more index at the end
 --   ids_next, ids_end   the indices that a Route holds are its first `count`: the next of them, and the end
 --   ids_at              the belt at place k is one of them
---   left b r k          the belts of the plan from place k on; left_start, left_next, left_end
+--   left b items k      the belts of the plan b from place k of a slice of belts on; left_next, left_end
+--   left_start          they are those of a known Route whose slice it is; few_items: there are at most max_steps
 --   at_belt             the belt at place k is a belt of the plan
 --
 -- Assumes nothing.
-use mathlib.Core.Path.{◌≡◌, refl, sym, ◌∙◌, ap}
+use mathlib.Core.Path.{◌≡◌, refl, sym, ◌∙◌, ap, subst}
 use Prim.Native.Nat.{ℕ, zero, suc, ◌+◌, ◌≤◌, ◌<◌}
 use mathlib.Core.List.Memᴰ
 use mathlib.Core.List.{List, [], ◌∷◌, ◌++◌, map, Memᴰ, map-append}
 use native.Mathlib.Omega.{arith}
 use native.Mathlib.Numerals.{add-one}
-use lib.ListN.{length, get_or, take, drop, length-map, drop_of_length-le, get_or-map}
+use lib.ListN.{length, get_or, take, drop, length-map, length-take, drop_of_length-le, get_or-map}
 use lib.Seq.{length-take-le, take-suc, drop-cons, get_or-take}
 use Rattle.plan.specs.declared.read.BeltId.{BeltId}
+use Rattle.plan.specs.Bounds.{max_steps}
 use Rattle.plan.specs.Plan.{Belt, belt_at, belt_id}
 use Rattle.plan.specs.Reading.{Accepted, IsBelt}
-use Rattle.route.specs.declared.path.Route.{Route}
+use Rattle.route.specs.declared.belts.Route.{Route}
 use Rattle.route.specs.Values.{ids_of, Known, route_in}
+use Rattle.plan.proofs.Lists.{in_map}
 use Rattle.route.proofs.RouteIndices.{known_route}
 
 pub places : (r : Route) {n : ℕ} → length (map {B = ℕ × Unit {0}} (λ (e : BeltId). (e.0, tt)) r.belts) ≡ n → length r.belts ≡ n
@@ -70,18 +73,26 @@ module _ (r : Route) (few : r.count ≤ length r.belts) where
 
 -- ---- the belts
 
-abbrev pub left : List ℕ → Route → ℕ → List Belt
-left b r k = map (belt_at b) (drop k (ids_of r))
+abbrev pub left : List ℕ → List BeltId → ℕ → List Belt
+left b items k = map (belt_at b) (map (λ (e : BeltId). e.0) (drop k items))
 
-module _ (b : List ℕ) (r : Route) (few : r.count ≤ length r.belts) where
-  pub left_start : Accepted b → Known b r → left b r 0 ≡ route_in b r
-  left_start ok known = sym (known_route ok r known)
+pub left_next : (b : List ℕ) (items : List BeltId) (k : ℕ) (d : BeltId) → k < length items
+    → left b items k ≡ belt_at b (get_or items k d).0 ∷ left b items (k + 1)
+left_next b items k d l =
+    ap (λ (es : List BeltId). map (belt_at b) (map (λ (e : BeltId). e.0) es)) (drop-cons items k d l ∙ ap (λ (j : ℕ). get_or items k d ∷ drop j items) (sym (add-one k)))
 
-  pub left_next : (k : ℕ) → k < r.count → left b r k ≡ belt_at b (get_or r.belts k (belt_id 0)).0 ∷ left b r (k + 1)
-  left_next k l = ap (map (belt_at b)) (ids_next r few k l)
+pub left_end : (b : List ℕ) (items : List BeltId) (k : ℕ) → length items ≤ k → left b items k ≡ []
+left_end b items k l = ap (λ (es : List BeltId). map (belt_at b) (map (λ (e : BeltId). e.0) es)) (drop_of_length-le items l)
 
-  pub left_end : (k : ℕ) → r.count ≤ k → left b r k ≡ []
-  left_end k l = ap (map (belt_at b)) (ids_end r few k l)
+-- the belts that a Route holds, as the slice of them
+module _ (r : Route) {items : List BeltId} (held : items ≡ take r.count r.belts) where
+  pub left_start : {b : List ℕ} → Accepted b → Known b r → left b items 0 ≡ route_in b r
+  left_start {b} ok known = ap (λ (es : List BeltId). left b es 0) held ∙ sym (known_route ok r known)
 
-  pub at_belt : Known b r → (k : ℕ) → k < r.count → IsBelt b (get_or r.belts k (belt_id 0)).0
-  at_belt known k l = known.belts (get_or r.belts k (belt_id 0)).0 (ids_at r few k l)
+  pub few_items : length items ≤ max_steps
+  few_items = omega (arith, ap length held, length-take r.count r.belts, r.few)
+
+  pub at_belt : {b : List ℕ} → Known b r → (k : ℕ) (d : BeltId) → k < length items → IsBelt b (get_or items k d).0
+  at_belt known k d l =
+      let m = in_map (λ (e : BeltId). e.0) (at_in items k d l) in
+      known.belts (get_or items k d).0 (subst (λ (es : List BeltId). Memᴰ (get_or items k d).0 (map (λ (e : BeltId). e.0) es)) held m)

@@ -16,7 +16,10 @@
 --                    so between junctions it has at most max_steps belts, and costs less than `unbounded`
 --   ends_junctions   s and t are junctions where they are no wrong ends
 -- Routes as the code holds them:
---   ids_packed       a packed route holds the belts that were packed
+--   same_route       two Routes are equal where their counts and arrays are
+--   packed_count, packed_belts
+--                    the count and the array of a packed route of max_steps belts or fewer
+--   ids_packed       such a packed route holds the belts that were packed
 --   packed_sets      belts stored from the front of an array of max_steps are `packed`
 --   known_route      the belts that a known Route holds are the belts at their records
 --   known_indices    and their indices are those that it holds
@@ -25,6 +28,7 @@
 -- Assumes nothing.
 use mathlib.Core.Path.{◌≡◌, refl, sym, ◌∙◌, ap}
 use mathlib.Core.Logic.{◌⊎◌, inl, inr}
+use mathlib.Core.HLevel.{is_prop→PathP}
 use mathlib.Core.Bool.{Bool, true, false, ◌&&◌, ◌||◌}
 use Prim.Native.Nat.{ℕ, ◌+◌, ◌*◌, ◌-◌, ◌≤◌, ◌<◌}
 use mathlib.Core.List.Memᴰ
@@ -32,6 +36,8 @@ use mathlib.Core.List.{List, [], ◌∷◌, ◌++◌, map, Memᴰ, map-map, map-
 use native.Mathlib.Omega.{arith}
 use lib.ListN.{length, take, replicate, length-map, length-take}
 use lib.Seq.{take_at, sets}
+use Rattle.std.proofs.Math.Bridge.{le_prop}
+use Rattle.std.proofs.lemmas.List.{take_all}
 use lib.Dec.{eqb}
 use borrow.Author.Tests.{eqb-true, eq-eqb, ne_eqb, not-false}
 use Rattle.plan.specs.declared.read.BeltId.{BeltId}
@@ -43,7 +49,7 @@ use Rattle.plan.proofs.Lists.{both, and_is, eqb_sym, within_is, each, all_in, ke
 use Rattle.plan.proofs.ListRising.{Rises, more}
 use Rattle.plan.proofs.NamedPlaces.{ids_sets}
 use Rattle.plan.proofs.Reading.{plan_sizes, belt_in, index_belt, belts_rise, belt_ends, belts_cost}
-use Rattle.route.specs.declared.path.Route.{Route}
+use Rattle.route.specs.declared.belts.Route.{Route}
 use Rattle.route.specs.Routes.{wrong_ends, IsRoute, connects, cost, belts_by_index}
 use Rattle.route.specs.Permission.{passes}
 use Rattle.route.specs.Values.{ids_of, packed, Known, route_in, unbounded}
@@ -137,14 +143,25 @@ ends_junctions p s t h =
 
 -- ---- routes as the code holds them
 
-pub ids_packed : (es : List ℕ) → length es ≤ max_steps → ids_of (packed es) ≡ es
-ids_packed es h =
-    ap (map (λ (e : BeltId). e.0)) (take_at (map belt_id es) (replicate (max_steps - length es) (belt_id 0)) (length es) (length-map es belt_id))
-    ∙ map-map (λ (e : BeltId). e.0) belt_id es
-    ∙ map-id es
+pub same_route : (x y : Route) → x.count ≡ y.count → x.belts ≡ y.belts → x ≡ y
+same_route x y p q = λ i. record { count = p i; belts = q i; few = is_prop→PathP (λ j. p j ≤ max_steps) (λ j. le_prop) x.few y.few i }
 
-pub packed_sets : (es : List ℕ) → length es ≤ max_steps → sets (replicate max_steps (belt_id 0)) 0 (map belt_id es) ≡ (packed es).belts
-packed_sets = ids_sets max_steps
+module _ (es : List ℕ) (h : length es ≤ max_steps) where
+  pub packed_count : (packed es).count ≡ length es
+  packed_count = omega arith
+
+  pub packed_belts : (packed es).belts ≡ map belt_id es ++ replicate (max_steps - length es) (belt_id 0)
+  packed_belts = ap (λ (xs : List ℕ). map belt_id xs ++ replicate (max_steps - length es) (belt_id 0)) (take_all max_steps es h)
+
+  pub ids_packed : ids_of (packed es) ≡ es
+  ids_packed =
+      (λ i. map (λ (e : BeltId). e.0) (take (packed_count i) (packed_belts i)))
+      ∙ ap (map (λ (e : BeltId). e.0)) (take_at (map belt_id es) (replicate (max_steps - length es) (belt_id 0)) (length es) (length-map es belt_id))
+      ∙ map-map (λ (e : BeltId). e.0) belt_id es
+      ∙ map-id es
+
+  pub packed_sets : sets (replicate max_steps (belt_id 0)) 0 (map belt_id es) ≡ (packed es).belts
+  packed_sets = ids_sets max_steps es h ∙ sym packed_belts
 
 pub known_route : {b : List ℕ} → Accepted b → (r : Route) → Known b r → route_in b r ≡ map (belt_at b) (ids_of r)
 known_route ok r k = indexed_map ok (ids_of r) k.belts
@@ -156,4 +173,4 @@ pub known_cheap : {b : List ℕ} → Accepted b → Bytes b → (r : Route) → 
 known_cheap {b} ok bytes r k =
     let sum = sum_cost ok bytes (route_in b r) (indexed_in (plan_of b) (ids_of r)) in
     let size : length (route_in b r) ≡ length (ids_of r) = sym (length-map (route_in b r) (λ (e : Belt). e.index)) ∙ ap length (known_indices ok r k) in
-    omega (arith, sum, size, k.few, length-map (take r.count r.belts) (λ (e : BeltId). e.0), length-take r.count r.belts)
+    omega (arith, sum, size, r.few, length-map (take r.count r.belts) (λ (e : BeltId). e.0), length-take r.count r.belts)

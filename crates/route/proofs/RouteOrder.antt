@@ -29,7 +29,7 @@ use Rattle.plan.specs.Plan.{Belt, plan_of, indices_of}
 use Rattle.plan.specs.Reading.{Accepted}
 use Rattle.plan.proofs.Lists.{test, both, either, neither}
 use Rattle.plan.proofs.Reading.{belt_index}
-use Rattle.route.specs.declared.path.Route.{Route}
+use Rattle.route.specs.declared.belts.Route.{Route}
 use Rattle.route.specs.Routes.{IsRoute, cost, first, lower, before}
 use Rattle.route.specs.Values.{ids_of, Known, route_in, lower_ids}
 use Rattle.route.specs.Claims.{OrderClaim, UpwardClaim}
@@ -44,7 +44,7 @@ module _ (m n : ℕ) (x : Bool) where
   pub first_ne : (m ≡ n → ⊥) → first m n x ≡ ltb m n
   first_ne d = ap (λ (t : Bool). ltb m n || (t && x)) (ne_eqb m n d) ∙ or-false (ltb m n)
 
-  first_lt : m < n → first m n x ≡ true
+  pub first_lt : m < n → first m n x ≡ true
   first_lt h = ap (λ (t : Bool). t || (eqb m n && x)) (lt-ltb m n h)
 
   pub first_gt : n < m → first m n x ≡ false

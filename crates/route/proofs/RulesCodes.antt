@@ -19,8 +19,8 @@ use borrow.Author.Tests.{eq-eqb}
 use Rattle.plan.specs.declared.read.BeltId.{BeltId}
 use Rattle.plan.specs.declared.read.Literal.{Literal}
 use Rattle.plan.specs.declared.read.Literal.TheVariants.{OfBelt, OfMode}
-use Rattle.plan.specs.declared.named.Place.{Place}
-use Rattle.plan.specs.declared.named.Place.TheVariants.{At}
+use Rattle.plan.specs.Plan.{Place}
+use Rattle.std.specs.Prelude.{Some}
 use Rattle.plan.specs.Lists.{count}
 use Rattle.plan.specs.Plan.{plan_of, literal_at, belt_at, named, names, in_rule, code_place}
 use Rattle.plan.specs.Reading.{Accepted, IsLiteral}
@@ -68,7 +68,7 @@ coded_low places (OfMode m w) h = subst LowCoded (sym (coded_back true m.0 w)) h
 
 -- ---- the literals of a plan
 
-number_of : (n k : ℕ) → code_place n ≡ At k → n ≡ suc k
+number_of : (n k : ℕ) → code_place n ≡ Some k → n ≡ suc k
 number_of zero k h = let z : ◌≡◌ {A = ℕ} 0 1 = cc in absurd (omega arith)
 number_of (suc n) k h = let e : n ≡ k = cc in ap suc e
 
@@ -110,7 +110,7 @@ module _ {b : List ℕ} (ok : Accepted b) where
         let n = get_or (named_places b) e.0 0 - 1 in
         let v : n ≡ lower e.0 = omega (arith, belt_number m e w k) in
         ap (λ (l : Coded). is_true l belts σ) (coded_back false n w)
-        ∙ ap (λ (q : Place). beq (in_mask belts q) w) (ap (λ (j : ℕ). At j) v ∙ sym (place_in_lem e.0 ns (literal_named m e w k)))
+        ∙ ap (λ (q : Place). beq (in_mask belts q) w) (ap (λ (j : ℕ). Some j) v ∙ sym (place_in_lem e.0 ns (literal_named m e w k)))
     true_in m (OfMode n w) k = ap (λ (l : Coded). is_true l belts σ) (coded_back true n.0 w)
 
     pub literal_true : (l : ℕ) → IsLiteral b l → is_true (coded_in (code_in (named_places b) (literal_at b l))) belts σ ≡ holds (has_belt b belts) σ (literal_at b l)

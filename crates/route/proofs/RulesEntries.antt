@@ -12,8 +12,8 @@
 -- The literals of a rule, one after the other:
 --   LiteralsStored b old first now l
 --                     Invariant: storing the entries from literal l on in `now` gives the same array as storing those from `first` on in `old`
---   literals_start, -stored, -size, -end
---                     it holds at first, and after the next entry is stored; the arrays are of one length; at the end no entry is left
+--   literals_stored, -size, -end
+--                     it holds after the next entry is stored; the arrays are of one length; at the end no entry is left
 -- The rules, one after the other:
 --   records_from b r   the records of the rules from r on: of each its own, and those of its literals
 --   RulesStored b n now r
@@ -38,7 +38,7 @@ use Rattle.plan.specs.Records.{records}
 use Rattle.plan.specs.Plan.{literal_at}
 use Rattle.plan.specs.Reading.{Accepted, IsRule, IsLiteral, is_rule_at, is_literal_at, first_rule, next_rule, first_literal, next_literal, rule_chain, literal_chain}
 use Rattle.plan.proofs.Lists.{test, never, untrue, in_mem, in_joined, length_iota, get_d_first, map_first}
-use Rattle.plan.proofs.Reading.{first_rule_is, next_rule_is, first_literal_is, next_literal_is, rule_chain_end, rule_chain_next, literal_chain_end, literal_chain_next}
+use Rattle.plan.proofs.Reading.{next_rule_is, first_literal_is, next_literal_is, rule_chain_end, rule_chain_next, literal_chain_end, literal_chain_next}
 use Rattle.plan.proofs.Reading.{records_more, rule_test, literal_test, not_rule, rule_low, literal_low, rule_on_chain, literal_on_chain}
 use Rattle.route.specs.Values.{named_places, code_in, rule_entry, literal_entry, entry_by, entry_of, clauses_in, Clauses, Ruled}
 use Rattle.route.specs.Inner.{stores}
@@ -147,35 +147,27 @@ module _ {b : List ℕ} (ok : Accepted b) where
 -- ---- the literals of a rule, one after the other
 
 pub record LiteralsStored (b old : List ℕ) (first : ℕ) (now : List ℕ) (l : ℕ) : Type 0 where
-  pub is_literal : (l ≡ 0 → ⊥) → IsLiteral b l
   pub whole : stores (entry_of b) now (literal_chain b l) ≡ stores (entry_of b) old (literal_chain b first)
 
-module _ {b : List ℕ} (ok : Accepted b) where
-  pub literals_start : (old : List ℕ) (r : ℕ) → IsRule b r → (l : ℕ) → l ≡ first_literal b r → LiteralsStored b old l old l
-  literals_start old r o l e =
-      subst (λ (i : ℕ). LiteralsStored b old i old i) (sym e) (record { is_literal = first_literal_is ok r o; whole = refl })
+module _ {b : List ℕ} (ok : Accepted b) {old now : List ℕ} {first l : ℕ} (h : LiteralsStored b old first now l) where
+  pub literals_size : length now ≡ length old
+  literals_size =
+      let f = entry_of b in
+      sym (length_stores f now (literal_chain b l)) ∙ ap length h.whole ∙ length_stores f old (literal_chain b first)
 
-  module _ {old now : List ℕ} {first l : ℕ} (h : LiteralsStored b old first now l) where
-    pub literals_size : length now ≡ length old
-    literals_size =
-        let f = entry_of b in
-        sym (length_stores f now (literal_chain b l)) ∙ ap length h.whole ∙ length_stores f old (literal_chain b first)
+  pub literals_end : l ≡ 0 → now ≡ stores (entry_of b) old (literal_chain b first)
+  literals_end e = sym (ap (stores (entry_of b) now) (ap (literal_chain b) e ∙ literal_chain_end ok)) ∙ h.whole
 
-    pub literals_end : l ≡ 0 → now ≡ stores (entry_of b) old (literal_chain b first)
-    literals_end e = sym (ap (stores (entry_of b) now) (ap (literal_chain b) e ∙ literal_chain_end ok)) ∙ h.whole
-
-    pub literals_stored : (d : l ≡ 0 → ⊥) (n : ℕ) → n ≡ next_literal b l → {places : List ℕ} → places ≡ named_places b
-        → (c : ℕ) → c ≡ code_in places (literal_at b l) → LiteralsStored b old first (set now l (n + field_limit * c)) n
-    literals_stored d n s {places} all c q =
-        let o = h.is_literal d in
-        let code : c ≡ code_in (named_places b) (literal_at b l) = q ∙ ap (λ (ps : List ℕ). code_in ps (literal_at b l)) all in
-        let entry : n + field_limit * c ≡ entry_of b l = (λ i. s i + field_limit * code i) ∙ sym (literal_entry_lem ok l o) in
-        record {
-          is_literal = λ z. subst (IsLiteral b) (sym s) (next_literal_is ok l o (λ e. z (s ∙ e))).1;
-          whole = (λ i. stores (entry_of b) (set now l (entry i)) (literal_chain b (s i)))
-              ∙ sym (ap (stores (entry_of b) now) (literal_chain_next ok l o))
-              ∙ h.whole;
-        }
+  pub literals_stored : IsLiteral b l → (n : ℕ) → n ≡ next_literal b l → {places : List ℕ} → places ≡ named_places b
+      → (c : ℕ) → c ≡ code_in places (literal_at b l) → LiteralsStored b old first (set now l (n + field_limit * c)) n
+  literals_stored o n s {places} all c q =
+      let code : c ≡ code_in (named_places b) (literal_at b l) = q ∙ ap (λ (ps : List ℕ). code_in ps (literal_at b l)) all in
+      let entry : n + field_limit * c ≡ entry_of b l = (λ i. s i + field_limit * code i) ∙ sym (literal_entry_lem ok l o) in
+      record {
+        whole = (λ i. stores (entry_of b) (set now l (entry i)) (literal_chain b (s i)))
+            ∙ sym (ap (stores (entry_of b) now) (literal_chain_next ok l o))
+            ∙ h.whole;
+      }
 
 -- ---- the rules, one after the other
 
@@ -186,7 +178,6 @@ abbrev records_from : List ℕ → ℕ → List ℕ
 records_from b r = joined (records_of b) (rule_chain b r)
 
 pub record RulesStored (b : List ℕ) (n : ℕ) (now : List ℕ) (r : ℕ) : Type 0 where
-  pub is_rule : (r ≡ 0 → ⊥) → IsRule b r
   pub whole : stores (entry_of b) now (records_from b r) ≡ stores (entry_of b) (replicate n 0) (0 ∷ records_from b (first_rule b))
 
 module _ {b : List ℕ} (ok : Accepted b) where
@@ -226,7 +217,7 @@ module _ {b : List ℕ} (ok : Accepted b) where
 
   pub rules_start_lem : (n r : ℕ) → r ≡ first_rule b → RulesStored b n (set (replicate n 0) 0 r) r
   unfolding entry_of
-  rules_start_lem n r e = subst (λ (i : ℕ). RulesStored b n (set (replicate n 0) 0 i) i) (sym e) (record { is_rule = first_rule_is ok; whole = refl })
+  rules_start_lem n r e = subst (λ (i : ℕ). RulesStored b n (set (replicate n 0) 0 i) i) (sym e) (record { whole = refl })
 
   module _ {n : ℕ} {now : List ℕ} {r : ℕ} (h : RulesStored b n now r) where
     pub rules_size_lem : length now ≡ n
@@ -239,14 +230,12 @@ module _ {b : List ℕ} (ok : Accepted b) where
     rules_end e =
         sym (ap (λ (is : List ℕ). stores (entry_of b) now (joined (records_of b) is)) (ap (rule_chain b) e ∙ rule_chain_end ok)) ∙ h.whole ∙ all_stored n
 
-    pub rules_stored : (d : r ≡ 0 → ⊥) (m l : ℕ) → m ≡ next_rule b r → l ≡ first_literal b r
+    pub rules_stored : IsRule b r → (m l : ℕ) → m ≡ next_rule b r → l ≡ first_literal b r
         → (put : List ℕ) → put ≡ stores (entry_of b) (set now r (m + field_limit * l)) (literal_chain b (first_literal b r)) → RulesStored b n put m
-    rules_stored d m l s q put w =
-        let o = h.is_rule d in
+    rules_stored o m l s q put w =
         let f = entry_of b in
         let entry : m + field_limit * l ≡ f r = (λ i. s i + field_limit * q i) ∙ sym (rule_entry_lem ok r o) in
         record {
-          is_rule = λ z. subst (IsRule b) (sym s) (next_rule_is ok r o (λ e. z (s ∙ e))).1;
           whole = (λ i. stores f (w i) (records_from b (s i)))
               ∙ (λ i. stores f (stores f (set now r (entry i)) (literal_chain b (first_literal b r))) (records_from b (next_rule b r)))
               ∙ sym (stores_append f (set now r (f r)) (literal_chain b (first_literal b r)) (records_from b (next_rule b r)))

@@ -24,7 +24,7 @@ use Rattle.plan.specs.Reading.{Accepted, IsBelt}
 use Rattle.plan.proofs.Lists.{any_cong, all_cong, map_in}
 use Rattle.plan.proofs.NamedBelts.{indices_back, named_rises}
 use Rattle.plan.proofs.Reading.{belt_of_lem, belt_low}
-use Rattle.route.specs.declared.path.Route.{Route}
+use Rattle.route.specs.declared.belts.Route.{Route}
 use Rattle.route.specs.declared.path.Trip.{Trip}
 use Rattle.route.specs.Routes.{belts_by_index}
 use Rattle.route.specs.Permission.{passes, holds, met, all_met, Terms, terms_of, works, lowest}
@@ -63,7 +63,7 @@ module _ {b : List ℕ} (ok : Accepted b) where
 
   pub route_placeable : (r : Route) → Known b r → {places : List ℕ} → places ≡ named_places b → Placeable places r
   route_placeable r k all = record {
-    few = k.few;
+    few = r.few;
     low = λ e m. (known_low r k e m, subst LowPlace (sym (looked_up b e all refl (known_low r k e m))) (place_low ok e));
   }
 

@@ -224,11 +224,11 @@ round_trip h es c σ r =
     (is_form (sheet_of es c σ) (form_back es c σ r.short), belts_back es c σ, cost_back es c σ, setting_back es c σ)
 
 pub read_back : ReadBackLaw
-read_back v few fits =
+read_back v fits =
     let es : List ℕ = ids_of v.route in
     let taken : List BeltId = take v.route.count v.route.belts in
     let short : length es ≤ max_steps =
-    omega (arith, few, length-map taken (λ (e : BeltId). e.0), length-take v.route.count v.route.belts) in (
+    omega (arith, v.route.few, length-map taken (λ (e : BeltId). e.0), length-take v.route.count v.route.belts) in (
       is_form (bytes_of v) (form_back es v.cost v.setting short),
       λ i. record { route = packed (belts_back es v.cost v.setting i); cost = cost_back es v.cost v.setting i; setting = setting_back es v.cost v.setting i },
     )

@@ -1,7 +1,6 @@
 -- A mask of named belts by their places, put in the order of tails.
 --
 --   Ordered numbers mask n v   of the first n named belts in the order of tails v has those that the mask has, and no others
---   ordered_start    of the first 0 there is none
 --   ordered_next     the next one goes above those that are there; ordered_shifted: its bit shifted within 64 bits, as the code has it
 --   ordered_low      what is so has no more than n bits
 --
@@ -14,7 +13,7 @@ use mathlib.Core.List.{List}
 use native.Mathlib.Omega.{arith}
 use native.Mathlib.Nat.{eq-or-lt_of_le, two-pow-succ}
 use native.Mathlib.Numerals.{add-one}
-use lib.Pow.{pow_pos, pow_mono, shl_exact}
+use lib.Pow.{pow_mono, shl_exact}
 use lib.Dec.{eqb, ltb}
 use borrow.Author.Tests.{ltb-true, ltb-false, lt-ltb, le-ltb}
 use Rattle.plan.specs.Words.{tail_place_at}
@@ -26,12 +25,6 @@ use Rattle.route.proofs.WaysHighest.{high_none}
 pub record Ordered (numbers : List ℕ) (mask n v : ℕ) : Type 0 where
   pub low : v < 2 ^ n
   pub has : (k : ℕ) → bit v k ≡ (ltb k n && bit mask (tail_place_at numbers k))
-
-pub ordered_start : (numbers : List ℕ) (mask : ℕ) → Ordered numbers mask 0 0
-ordered_start numbers mask = record {
-  low = omega arith;
-  has = λ k. high_none 0 k (pow_pos k) ∙ sym (ap (λ (t : Bool). t && bit mask (tail_place_at numbers k)) (le-ltb k 0 (omega arith)));
-}
 
 pub ordered_low : {numbers : List ℕ} {mask n v : ℕ} → Ordered numbers mask n v → (m : ℕ) → n ≤ m → v < 2 ^ m
 ordered_low {numbers} {mask} {n} {v} o m h = let more : 2 ^ n ≤ 2 ^ m = pow_mono h in let low = o.low in omega arith

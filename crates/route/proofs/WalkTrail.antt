@@ -20,6 +20,7 @@ use Rattle.plan.specs.Bounds.{max_junctions, max_records}
 use Rattle.plan.specs.Plan.{Belt, plan_of, indices_of, place_in}
 use Rattle.plan.specs.Reading.{Accepted}
 use Rattle.plan.proofs.Reading.{belt_of_lem, belt_low, belt_ends}
+use Rattle.route.specs.declared.ways.Way.{Way}
 use Rattle.route.specs.declared.relax.Summary.{Summary}
 use Rattle.route.specs.Routes.{IsRoute}
 use Rattle.route.specs.Values.{with_place, gathered_in}
@@ -30,11 +31,11 @@ use Rattle.route.proofs.RouteIndices.{route_length}
 -- ---- the walk
 
 -- a trail has no more belts than there are places
-trail_length : (ways : List ℕ) (i t : ℕ) (r : List Belt) → Trail ways i t r → i + length r ≤ t
+trail_length : (ways : List Way) (i t : ℕ) (r : List Belt) → Trail ways i t r → i + length r ≤ t
 trail_length ways i t [] h = omega arith
 trail_length ways i t (e ∷ r) h = omega (arith, h.0.up, trail_length ways (e.leads - 1) t r h.1)
 
-pub record Walked (places ways : List ℕ) (t : ℕ) (start : List ℕ) (whole : List Belt) (at count : ℕ) (stored : List ℕ) (m : ℕ) : Type 0 where
+pub record Walked (places : List ℕ) (ways : List Way) (t : ℕ) (start : List ℕ) (whole : List Belt) (at count : ℕ) (stored : List ℕ) (m : ℕ) : Type 0 where
   left : List Belt
   trail : Trail ways at t left
   few : length whole ≤ t
@@ -42,7 +43,7 @@ pub record Walked (places ways : List ℕ) (t : ℕ) (start : List ℕ) (whole :
   stores : sets stored count (indices_of left) ≡ sets start 0 (indices_of whole)
   gathers : gathered_in places m (indices_of left) ≡ gathered_in places 0 (indices_of whole)
 
-pub record Step (places ways : List ℕ) (t : ℕ) (start : List ℕ) (whole : List Belt) (at count : ℕ) (stored : List ℕ) (m : ℕ) : Type 0 where
+pub record Step (places : List ℕ) (ways : List Way) (t : ℕ) (start : List ℕ) (whole : List Belt) (at count : ℕ) (stored : List ℕ) (m : ℕ) : Type 0 where
   pub room : count < t
   pub index : link_at ways at / max_junctions < max_records
   pub higher : at < link_at ways at % max_junctions
@@ -50,7 +51,7 @@ pub record Step (places ways : List ℕ) (t : ℕ) (start : List ℕ) (whole : L
   pub walked : let e = link_at ways at / max_junctions in
       Walked places ways t start whole (link_at ways at % max_junctions) (count + 1) (set stored count e) (with_place m (place_in places e))
 
-module _ {places ways : List ℕ} {t : ℕ} {start : List ℕ} {whole : List Belt} where
+module _ {places : List ℕ} {ways : List Way} {t : ℕ} {start : List ℕ} {whole : List Belt} where
   pub walked_start : (s : ℕ) → Trail ways s t whole → Walked places ways t start whole s 0 start 0
   walked_start s h = record {
     left = whole;
@@ -113,7 +114,7 @@ module _ {places ways : List ℕ} {t : ℕ} {start : List ℕ} {whole : List Bel
 
 -- ---- the trail of a route
 
-module _ {b : List ℕ} (ok : Accepted b) (ways : List ℕ) (t : ℕ) where
+module _ {b : List ℕ} (ok : Accepted b) (ways : List Way) (t : ℕ) where
   pub route_trail : (i : ℕ) (r : List Belt) → IsRoute (plan_of b) (suc i) (suc t) r → Traces ways r → Trail ways i t r
   route_trail i [] h tr = let q : suc i ≡ suc t = h in omega arith
   route_trail i (e ∷ r) h tr =

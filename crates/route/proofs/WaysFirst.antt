@@ -22,6 +22,7 @@ use Rattle.plan.specs.Reading.{Accepted, Bytes}
 use Rattle.plan.specs.Words.{link_limit, way_limit, far, link_of}
 use Rattle.plan.proofs.Lists.{neither}
 use Rattle.plan.proofs.Reading.{plan_sizes, belt_index, belt_ends}
+use Rattle.route.specs.declared.ways.Way.{Way}
 use Rattle.route.specs.Routes.{IsRoute, cost, before, lower}
 use Rattle.route.specs.Subproblems.{Subproblem, admits}
 use Rattle.route.specs.Inner.{remaining, way_on}
@@ -42,10 +43,10 @@ not_earlier e f r s h =
     low k = ltb-false f.index e.index (neither (ltb f.index e.index) (eqb f.index e.index && lower s r) k).0
 
 -- the ways over a belt, after the way r and after none
-over_some : (ways : List ℕ) (e : Belt) (r : List Belt) → rest_at ways (e.leads - 1) ≡ rest_of (some r) → over_belt ways e ≡ cost (e ∷ r) * link_limit + link_of e
+over_some : (ways : List Way) (e : Belt) (r : List Belt) → rest_at ways (e.leads - 1) ≡ rest_of (some r) → over_belt ways e ≡ cost (e ∷ r) * link_limit + link_of e
 over_some ways e r h = omega (arith, h)
 
-over_none : (ways : List ℕ) (e : Belt) → rest_at ways (e.leads - 1) ≡ rest_of none → far ≤ over_belt ways e
+over_none : (ways : List Way) (e : Belt) → rest_at ways (e.leads - 1) ≡ rest_of none → far ≤ over_belt ways e
 over_none ways e h = omega (arith, h)
 
 pub record First (b : List ℕ) (x : Subproblem) (t u v : ℕ) : Type 0 where
@@ -84,7 +85,7 @@ module _ {b : List ℕ} (ok : Accepted b) (bytes : Bytes b) (x : Subproblem) (t 
           ),
         )
 
-    module _ (ways : List ℕ) (priced : (j : ℕ) → u < j → j ≤ nearest → rest_at ways (j - 1) ≡ rest_of (way_on (plan_of b) x t j))
+    module _ (ways : List Way) (priced : (j : ℕ) → u < j → j ≤ nearest → rest_at ways (j - 1) ≡ rest_of (way_on (plan_of b) x t j))
         (v : ℕ) (lowest : Lowest b x u nearest ways v) where
       -- what the table has for the head of an open belt
       head_price : (e : Belt) → Opens b x u nearest e → rest_at ways (e.leads - 1) ≡ rest_of (way_on (plan_of b) x t e.leads)

@@ -30,18 +30,20 @@ use mathlib.Core.List.{List, [], ◌∷◌, Memᴰ, head-eq_of_cons-eq, tail-eq_
 use native.Mathlib.Omega.{arith}
 use lib.ListN.{length}
 use lib.Pow.{pow_pos}
+use Rattle.plan.specs.Bounds.{max_junctions}
 use Rattle.plan.specs.Plan.{Belt, plan_of}
 use Rattle.plan.specs.Reading.{Accepted}
 use Rattle.plan.specs.Words.{link_limit, way_limit, far, link_of, word_index, is_named, mark_at}
 use Rattle.plan.specs.Tables.{Arc, Tabled}
 use Rattle.plan.proofs.Lists.{lt_or_le, test, never, in_mem, mem_in}
 use Rattle.plan.proofs.Reading.{plan_sizes, belt_index, belt_ends}
+use Rattle.route.specs.declared.ways.Way.{Way}
 use Rattle.route.specs.Routes.{IsRoute, cost, before}
 use Rattle.route.specs.Permission.{passes}
 use Rattle.route.specs.Subproblems.{Subproblem, admits, relaxed}
 use Rattle.route.specs.Values.{at_most}
 use Rattle.route.specs.Inner.{is_required, is_forbidden, remaining, way_on, way_cost}
-use Rattle.route.specs.Ways.{bit, rest_of, rest_at, way_places, Asked, over_belt, Piece, Traces, Ready, Stands, Parted}
+use Rattle.route.specs.Ways.{bit, rest_of, rest_at, Asked, over_belt, Piece, Traces, Ready, Stands, Parted}
 use Rattle.route.proofs.RelaxBound.{at_most_none, at_most_some}
 use Rattle.route.proofs.RouteOrder.{before_cons}
 use Rattle.route.proofs.SubproblemFirst.{admits_is, relaxed_some, is_relaxed, no_relaxed}
@@ -177,7 +179,7 @@ module _ {b : List ℕ} {x : Subproblem} {words numbers : List ℕ} {due forbidd
   arc_required : {u k : ℕ} {e : Belt} → Arc (plan_of b) words numbers u k e → bit due k ≡ true → is_required x e ≡ true
   arc_required {u} {k} {e} a h = (q.of_named u k e a).0 ∙ h
 
-  pub parted_start : (ways : List ℕ) → rest_at ways t ≡ 0 → Parted b x words numbers due t due t ways
+  pub parted_start : (ways : List Way) → rest_at ways t ≡ 0 → Parted b x words numbers due t due t ways
   parted_start ways clear = record {
     within = omega arith;
     part = λ k h. h;
@@ -190,7 +192,7 @@ module _ {b : List ℕ} {x : Subproblem} {words numbers : List ℕ} {due forbidd
     };
   }
 
-  module _ {left nearest : ℕ} {ways : List ℕ} (w : Parted b x words numbers due t left nearest ways) where
+  module _ {left nearest : ℕ} {ways : List Way} (w : Parted b x words numbers due t left nearest ways) where
     -- what cuts at place nearest
     reached : (suc nearest ≡ suc t) ⊎ ((g : Belt) × Memᴰ g (plan_of b).belts × (is_required x g ≡ true) × (g.leaves ≡ suc nearest))
     reached = go w.reached
@@ -287,7 +289,7 @@ module _ {b : List ℕ} {x : Subproblem} {words numbers : List ℕ} {due forbidd
         next_ready = w.ready (λ v j g a h. omega (arith, last v j g a h, head_above))
 
         -- the piece is done
-        module _ {ways' : List ℕ} (stands : Stands b x t (e.leads - 1) nearest ways') where
+        module _ {ways' : List Way} (stands : Stands b x t (e.leads - 1) nearest ways') where
           back : suc (e.leads - 1) ≡ e.leads
           back = omega (arith, (belt_ends ok e arc.belt).1)
 
@@ -323,7 +325,7 @@ module _ {b : List ℕ} {x : Subproblem} {words numbers : List ℕ} {due forbidd
               found (some r) k = ap (at_most bound) (sym (found_way ok x (suc s) (suc t) q.belts r k ∙ k)) ∙ above
 
           -- no other belt that is left leaves there: the way on is that over e
-          stored : length ways' ≡ way_places → over_belt ways' e < far
+          stored : length ways' ≡ max_junctions → over_belt ways' e < far
               → ((v j : ℕ) (g : Belt) → Arc (plan_of b) words numbers v j g → bit (left - 2 ^ k) j ≡ true → v < u)
               → Ready b x t (entered ways' u (over_belt ways' e)) u
           stored size within others = go (way_on (plan_of b) x (suc t) e.leads) refl
@@ -356,7 +358,7 @@ module _ {b : List ℕ} {x : Subproblem} {words numbers : List ℕ} {due forbidd
                   (λ f r' c. (stands (e.leads - 1) (omega arith) near).trace r'
                   (ap (way_on (plan_of b) x (suc t)) back ∙ h ∙ ap (λ (l : List Belt). some l) (tail-eq_of_cons-eq (some-injective (e ∷ r) (f ∷ r') (sym at ∙ c)))))
 
-          pub parted_next : length ways' ≡ way_places → over_belt ways' e < far
+          pub parted_next : length ways' ≡ max_junctions → over_belt ways' e < far
               → Parted b x words numbers due t (left - 2 ^ k) u (entered ways' u (over_belt ways' e))
           parted_next size within = record {
             within = omega (arith, before_t);

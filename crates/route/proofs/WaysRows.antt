@@ -1,41 +1,28 @@
 -- The least way over a row of words, one word after the other.
 --
---   least_start   before the first word it is what the row starts from
---   least_taken   an open word is looked at: the lesser of what was least and the way over it
+--   least_taken   an open word is looked at: the lesser of what was least and the way over it (min_either: one of the two)
 --   least_passed  a word that is not open is passed over
---   least_end     where no word that is left is open, it is the least of the whole row
---   Reached first last i
---                 the loop over a row is at place i: not past its end, or at its start, where the row is empty; reached_start: at its start,
---                 reached_next: one place further
+--   least_end     where no word that is left is open, it is the least of the whole row. The loop is not past the row's end, or where the row has none,
+--                 at its start
 --
 -- Assumes nothing.
-use mathlib.Core.Path.{◌≡◌, refl, sym, ◌∙◌, subst}
+use mathlib.Core.Path.{◌≡◌, sym, ◌∙◌, subst}
 use mathlib.Core.Logic.{◌⊎◌, inl, inr}
-use Prim.Native.Nat.{ℕ, ◌+◌, ◌≤◌, ◌<◌}
+use Prim.Native.Nat.{ℕ, ◌+◌, ◌≤◌, ◌<◌, min}
 use mathlib.Core.List.{List}
 use native.Mathlib.Omega.{arith}
 use native.Mathlib.Nat.{eq-or-lt_of_le}
 use lib.ListN.{get_or}
 use Rattle.plan.proofs.Lists.{lt_or_le}
+use Rattle.route.specs.declared.ways.Way.{Way}
 use Rattle.route.specs.Ways.{over_word, Hit, Least}
 
-pub record Reached (first last i : ℕ) : Type 0 where
-  pub from : first ≤ i
-  pub to : (i ≤ last) ⊎ (i ≡ first)
-
-pub reached_start : {first last : ℕ} → Reached first last first
-reached_start = record { from = omega arith; to = inr refl }
-
-pub reached_next : {first last i : ℕ} → i < last → Reached first last i → Reached first last (i + 1)
-reached_next l h = record { from = omega (arith, h.from); to = inl (omega arith) }
-
--- places that the loop has passed are places of the row
-reached_in : {first last i : ℕ} → Reached first last i → (j : ℕ) → first ≤ j → j < i → j < last
-reached_in {first} {last} {i} h j l k = go h.to
+min_either : (a b : ℕ) → (min a b ≡ a) ⊎ (min a b ≡ b)
+min_either a b = go (lt_or_le a b)
   where
-    go : (i ≤ last) ⊎ (i ≡ first) → j < last
-    go (inl a) = omega arith
-    go (inr a) = absurd (omega arith)
+    go : (a < b) ⊎ (b ≤ a) → (min a b ≡ a) ⊎ (min a b ≡ b)
+    go (inl l) = inl (omega arith)
+    go (inr l) = inr (omega arith)
 
 -- what holds from `first` on and below i, and at i, holds below i + 1
 extended : (P : ℕ → Type 0) {first i : ℕ} → ((j : ℕ) → first ≤ j → j < i → P j) → P i → (j : ℕ) → first ≤ j → j < i + 1 → P j
@@ -45,20 +32,16 @@ extended P {first} {i} under at j h k = go (eq-or-lt_of_le (omega arith))
     go (inl q) = subst P (sym q) at
     go (inr l) = under j h l
 
-module _ {words : List ℕ} {Open : ℕ → Type 0} {first : ℕ} {ways : List ℕ} where
-  pub least_start : {from : ℕ} → Least words Open first first ways from from
-  least_start = record { start = omega arith; below = λ i h k o. absurd (omega arith); one = inl refl }
-
+module _ {words : List ℕ} {Open : ℕ → Type 0} {first : ℕ} {ways : List Way} where
   wider : {i n v j : ℕ} → (j < i → j < n) → Hit words Open first i ways v j → Hit words Open first n ways v j
   wider l h = record { from = h.from; before = l h.before; is_open = h.is_open; same = h.same }
 
   module _ {i from v : ℕ} (least : Least words Open first i ways from v) where
-    pub least_taken : {w : ℕ} → first ≤ i → Open i → w ≤ v → w ≤ over_word ways (get_or words i 0) → (w ≡ v) ⊎ (w ≡ over_word ways (get_or words i 0))
-        → Least words Open first (i + 1) ways from w
-    least_taken {w} h o l k is = record {
+    pub least_taken : {w : ℕ} → first ≤ i → Open i → w ≡ min v (over_word ways (get_or words i 0)) → Least words Open first (i + 1) ways from w
+    least_taken {w} h o e = record {
       start = omega (arith, least.start);
-      below = extended (λ (j : ℕ). Open j → w ≤ over_word ways (get_or words j 0)) (λ j a c q. omega (arith, least.below j a c q)) (λ q. k);
-      one = go is least.one;
+      below = extended (λ (j : ℕ). Open j → w ≤ over_word ways (get_or words j 0)) (λ j a c q. omega (arith, least.below j a c q)) (λ q. omega arith);
+      one = go (subst (λ (n : ℕ). (n ≡ v) ⊎ (n ≡ over_word ways (get_or words i 0))) (sym e) (min_either v (over_word ways (get_or words i 0)))) least.one;
     }
       where
         go : (w ≡ v) ⊎ (w ≡ over_word ways (get_or words i 0)) → (v ≡ from) ⊎ ((j : ℕ) × Hit words Open first i ways v j)
@@ -78,13 +61,18 @@ module _ {words : List ℕ} {Open : ℕ → Type 0} {first : ℕ} {ways : List �
         go (inl s) = inl s
         go (inr (j, s)) = inr (j, wider (λ k. omega arith) s)
 
-    pub least_end : {last : ℕ} → Reached first last i → ((j : ℕ) → i ≤ j → j < last → Open j → ⊥) → Least words Open first last ways from v
-    least_end {last} r shut = record { start = least.start; below = λ j a c o. under j a c o (lt_or_le j i); one = go least.one }
+    pub least_end : {last : ℕ} → (first ≤ last → i ≤ last) → (last < first → i ≡ first) → ((j : ℕ) → i ≤ j → j < last → Open j → ⊥) → Least words Open first last ways from v
+    least_end {last} to none shut = record { start = least.start; below = λ j a c o. under j a c o (lt_or_le j i); one = go least.one }
       where
+        -- a place that the loop has passed is a place of the row
+        passed : (j : ℕ) → first ≤ j → j < i → (last < first) ⊎ (first ≤ last) → j < last
+        passed j h l (inl k) = absurd (omega (arith, none k))
+        passed j h l (inr k) = omega (arith, to k)
+
         under : (j : ℕ) → first ≤ j → j < last → Open j → (j < i) ⊎ (i ≤ j) → v ≤ over_word ways (get_or words j 0)
         under j a c o (inl k) = least.below j a k o
         under j a c o (inr k) = absurd (shut j k c o)
 
         go : (v ≡ from) ⊎ ((j : ℕ) × Hit words Open first i ways v j) → (v ≡ from) ⊎ ((j : ℕ) × Hit words Open first last ways v j)
         go (inl s) = inl s
-        go (inr (j, s)) = inr (j, wider (reached_in r j s.from) s)
+        go (inr (j, s)) = inr (j, wider (λ l. passed j s.from l (lt_or_le last first)) s)

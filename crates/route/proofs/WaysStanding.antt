@@ -15,7 +15,7 @@
 use mathlib.Core.Path.{◌≡◌, refl, ◌∙◌, ap, subst}
 use mathlib.Core.Logic.{◌⊎◌, inl, inr}
 use mathlib.Core.Option.{some}
-use Prim.Native.Nat.{ℕ, zero, suc, ◌+◌, ◌-◌, ◌%◌, ◌≤◌, ◌<◌}
+use Prim.Native.Nat.{ℕ, zero, suc, ◌-◌, ◌%◌, ◌≤◌, ◌<◌}
 use mathlib.Core.List.{List, [], ◌∷◌}
 use native.Mathlib.Omega.{arith}
 use native.Mathlib.Nat.{eq-or-lt_of_le}
@@ -26,106 +26,94 @@ use Rattle.plan.specs.Plan.{Belt, plan_of}
 use Rattle.plan.specs.Reading.{Accepted}
 use Rattle.plan.specs.Words.{link_limit, far}
 use Rattle.plan.proofs.Reading.{plan_sizes, belt_ends}
+use Rattle.route.specs.declared.ways.Way.{Way}
 use Rattle.route.specs.Routes.{IsRoute}
 use Rattle.route.specs.Subproblems.{Subproblem}
 use Rattle.route.specs.Inner.{way_on}
-use Rattle.route.specs.Ways.{rest_of, rest_at, link_at, way_places, Spared, Traces, Room, Rows, Cut, Piece, Ready, Stands}
+use Rattle.route.specs.Ways.{no_way, no_ways, way_of, rest_of, rest_at, link_at, Spared, Traces, Room, Rows, Cut, Piece, Ready, Stands}
 use Rattle.route.proofs.RelaxOnward.{way_route, way_next}
 use Rattle.route.proofs.WaysFirst.{First, first_way, way_opens}
 use Rattle.route.proofs.WaysTabled.{lowest_of_lem}
 
 -- ---- the array
 
-zeros : (n j : ℕ) → ◌≡◌ {A = ℕ} (get_or (replicate n 0) j 0) 0
-zeros zero j = refl
-zeros (suc n) zero = refl
-zeros (suc n) (suc j) = zeros n j
+blank : (n j : ℕ) → get_or (replicate n no_way) j no_way ≡ no_way
+blank zero j = refl
+blank (suc n) zero = refl
+blank (suc n) (suc j) = blank n j
 
-pub ways_clear : (ways : List ℕ) → ways ≡ replicate way_places 0 → Room ways × ((s t : ℕ) → Spared s t ways)
-ways_clear ways q = start way_places refl q
-  where
-    start : (n : ℕ) → n ≡ way_places → ways ≡ replicate n 0 → Room ways × ((s t : ℕ) → Spared s t ways)
-    start n size e =
-        let none : (j : ℕ) → get_or ways j 0 ≡ 0 = λ j. ap (λ (l : List ℕ). get_or l j 0) e ∙ zeros n j in
-        let long : length ways ≡ way_places = ap (length {A = ℕ}) e ∙ length-replicate n 0 ∙ size in (
-          record { size = long; low = λ j. omega (arith, none j) },
-          λ s t. record {
-            size = long;
-            below = λ j l. (none j, none (max_junctions + j));
-            above = λ j l k. (none j, none (max_junctions + j));
-          },
-        )
+pub ways_clear : (ways : List Way) → ways ≡ no_ways → Room ways × ((s t : ℕ) → Spared s t ways)
+ways_clear ways e =
+    let none : (j : ℕ) → get_or ways j no_way ≡ no_way = λ j. ap (λ (l : List Way). get_or l j no_way) e ∙ blank max_junctions j in
+    let long : length ways ≡ max_junctions = ap (length {A = Way}) e ∙ length-replicate max_junctions no_way in (
+      record { size = long; low = λ j. omega (arith, ap (λ (w : Way). w.cost) (none j)) },
+      λ s t. record { size = long; below = λ j l. none j; above = λ j l k. none j },
+    )
 
-abbrev pub entered : List ℕ → ℕ → ℕ → List ℕ
-entered ways u v = set (set ways u (v - v % link_limit)) (max_junctions + u) (v % link_limit)
+abbrev pub entered : List Way → ℕ → ℕ → List Way
+entered ways u v = set ways u (way_of v)
 
-set_low : (m : ℕ) (l : List ℕ) (i a : ℕ) → a ≤ m → ((j : ℕ) → get_or l j 0 ≤ m) → (j : ℕ) → get_or (set l i a) j 0 ≤ m
+set_low : (m : ℕ) (l : List Way) (i : ℕ) (a : Way) → a.cost ≤ m → ((j : ℕ) → rest_at l j ≤ m) → (j : ℕ) → rest_at (set l i a) j ≤ m
 set_low m [] i a h all j = all j
 set_low m (y ∷ l) zero a h all zero = h
 set_low m (y ∷ l) zero a h all (suc j) = all (suc j)
 set_low m (y ∷ l) (suc i) a h all zero = all zero
 set_low m (y ∷ l) (suc i) a h all (suc j) = set_low m l i a h (λ k. all (suc k)) j
 
-module _ (ways : List ℕ) (u v : ℕ) where
+module _ (ways : List Way) (u v : ℕ) where
   entered_size : length (entered ways u v) ≡ length ways
-  entered_size = length-set (set ways u (v - v % link_limit)) (max_junctions + u) (v % link_limit) ∙ length-set ways u (v - v % link_limit)
+  entered_size = length-set ways u (way_of v)
 
   pub room_entered : v ≤ far → Room ways → Room (entered ways u v)
-  room_entered h r = record {
-    size = entered_size ∙ r.size;
-    low = set_low far (set ways u (v - v % link_limit)) (max_junctions + u) (v % link_limit) (omega arith)
-        (set_low far ways u (v - v % link_limit) (omega arith) r.low);
-  }
+  room_entered h r = record { size = entered_size ∙ r.size; low = set_low far ways u (way_of v) (omega arith) r.low }
+
+  entered_other : (j : ℕ) → (j ≡ u → ⊥) → get_or (entered ways u v) j no_way ≡ get_or ways j no_way
+  entered_other j apart = get_or-set_other ways u j (way_of v) no_way apart
+
+  rest_other : (j : ℕ) → (j ≡ u → ⊥) → rest_at (entered ways u v) j ≡ rest_at ways j
+  rest_other j apart = ap (λ (w : Way). w.cost) (entered_other j apart)
+
+  link_other : (j : ℕ) → (j ≡ u → ⊥) → link_at (entered ways u v) j ≡ link_at ways j
+  link_other j apart = ap (λ (w : Way). w.link) (entered_other j apart)
 
   module _ (l : u < max_junctions) where
-    rest_other : (j : ℕ) → j < max_junctions → (j ≡ u → ⊥) → rest_at (entered ways u v) j ≡ rest_at ways j
-    rest_other j h apart =
-        get_or-set_other (set ways u (v - v % link_limit)) (max_junctions + u) j (v % link_limit) 0 (λ q. omega arith)
-        ∙ get_or-set_other ways u j (v - v % link_limit) 0 (λ q. omega arith)
+    module _ (size : length ways ≡ max_junctions) where
+      entered_same : get_or (entered ways u v) u no_way ≡ way_of v
+      entered_same = get_or-set_same ways u (way_of v) no_way (omega arith)
 
-    link_other : (j : ℕ) → (j ≡ u → ⊥) → link_at (entered ways u v) j ≡ link_at ways j
-    link_other j apart =
-        get_or-set_other (set ways u (v - v % link_limit)) (max_junctions + u) (max_junctions + j) (v % link_limit) 0 (λ q. omega arith)
-        ∙ get_or-set_other ways u (max_junctions + j) (v - v % link_limit) 0 (λ q. omega arith)
-
-    module _ (size : length ways ≡ way_places) where
       rest_same : rest_at (entered ways u v) u ≡ v - v % link_limit
-      rest_same =
-          get_or-set_other (set ways u (v - v % link_limit)) (max_junctions + u) u (v % link_limit) 0 (λ q. omega arith)
-          ∙ get_or-set_same ways u (v - v % link_limit) 0 (omega arith)
+      rest_same = ap (λ (w : Way). w.cost) entered_same
 
       link_same : link_at (entered ways u v) u ≡ v % link_limit
-      link_same =
-          get_or-set_same (set ways u (v - v % link_limit)) (max_junctions + u) (v % link_limit) 0 (omega (arith, length-set ways u (v - v % link_limit)))
+      link_same = ap (λ (w : Way). w.link) entered_same
 
     pub spared_entered : {s t : ℕ} → s ≤ u → u < t → Spared s t ways → Spared s t (entered ways u v)
     spared_entered {s} {t} from to h = record {
       size = entered_size ∙ h.size;
-      below = λ j k. let (c, a) = h.below j k in
-          (rest_other j (omega arith) (λ q. omega arith) ∙ c, link_other j (λ q. omega arith) ∙ a);
-      above = λ j k m. let (c, a) = h.above j k m in (rest_other j m (λ q. omega arith) ∙ c, link_other j (λ q. omega arith) ∙ a);
+      below = λ j k. entered_other j (λ q. omega arith) ∙ h.below j k;
+      above = λ j k m. entered_other j (λ q. omega arith) ∙ h.above j k m;
     }
 
 -- ---- what is known of places
 
 module _ {b : List ℕ} (ok : Accepted b) where
-  pub traces_entered : (t j : ℕ) (ways : List ℕ) (u v : ℕ) (r : List Belt) → u < max_junctions → IsRoute (plan_of b) j t r → suc u < j
+  pub traces_entered : (t j : ℕ) (ways : List Way) (u v : ℕ) (r : List Belt) → u < max_junctions → IsRoute (plan_of b) j t r → suc u < j
       → Traces ways r → Traces (entered ways u v) r
   traces_entered t j ways u v [] few h l tr = tt
   traces_entered t j ways u v (e ∷ r) few h l tr =
       let up = (belt_ends ok e h.0).1 in (
-        link_other ways u v few (e.leaves - 1) (λ q. omega (arith, h.1)) ∙ tr.0,
+        link_other ways u v (e.leaves - 1) (λ q. omega (arith, h.1)) ∙ tr.0,
         traces_entered t e.leads ways u v r few h.2 (omega (arith, h.1)) tr.1,
       )
 
-  pub ready_entered : {x : Subproblem} {t : ℕ} {ways : List ℕ} (i u v : ℕ) → u < i → i < max_junctions → Ready b x t ways i
+  pub ready_entered : {x : Subproblem} {t : ℕ} {ways : List Way} (i u v : ℕ) → u < i → i < max_junctions → Ready b x t ways i
       → Ready b x t (entered ways u v) i
   ready_entered {x} {t} {ways} i u v l few h = record {
-    price = rest_other ways u v (omega arith) i few (λ q. omega arith) ∙ h.price;
+    price = rest_other ways u v i (λ q. omega arith) ∙ h.price;
     trace = λ r k. traces_entered (suc t) (suc i) ways u v r (omega arith) (way_route ok x (suc t) (suc i) r k) (omega arith) (h.trace r k);
   }
 
-  pub ready_stored : (x : Subproblem) (t u v : ℕ) (ways : List ℕ) → u < max_junctions → length ways ≡ way_places → First b x (suc t) (suc u) v
+  pub ready_stored : (x : Subproblem) (t u v : ℕ) (ways : List Way) → u < max_junctions → length ways ≡ max_junctions → First b x (suc t) (suc u) v
       → ((e : Belt) (r : List Belt) → way_on (plan_of b) x (suc t) (suc u) ≡ some (e ∷ r) → Traces ways r)
       → Ready b x t (entered ways u v) u
   ready_stored x t u v ways few size is later = record { price = rest_same ways u v few size ∙ is.price; trace = go }
@@ -151,7 +139,7 @@ module _ {b : List ℕ} {x : Subproblem} {words numbers : List ℕ} {due forbidd
     reached = p.reached;
   }
 
-  pub stands_next : (ways : List ℕ) (w u v : ℕ) → w ≡ suc u → low ≤ u → u < nearest → length ways ≡ way_places → Stands b x t w nearest ways
+  pub stands_next : (ways : List Way) (w u v : ℕ) → w ≡ suc u → low ≤ u → u < nearest → length ways ≡ max_junctions → Stands b x t w nearest ways
       → Rows words numbers forbidden nearest ways u v → Stands b x t u nearest (entered ways u v)
   stands_next ways w u v one h l size done rows i from to = go (eq-or-lt_of_le from)
     where

@@ -17,6 +17,7 @@ use Rattle.plan.specs.Plan.{Belt, plan_of}
 use Rattle.plan.specs.Reading.{Accepted}
 use Rattle.plan.specs.Words.{word_head, word_of, far, is_named, start_at, mark_at, tail_place_at}
 use Rattle.plan.proofs.Lists.{test}
+use Rattle.route.specs.declared.ways.Way.{Way}
 use Rattle.route.specs.Subproblems.{Subproblem}
 use Rattle.route.specs.Ways.{bit, rest_at, Asked, over_word, over_belt, Near, OpenArc, Hit, Rows, Opens, Lowest}
 use Rattle.route.proofs.WaysWords.{head_of}
@@ -28,11 +29,11 @@ bit_none m k h = omega (arith, eqb-false (m / 2 ^ k % 2) 1 h)
 pub none_bit : (m k : ℕ) → m / 2 ^ k % 2 ≡ 0 → bit m k ≡ false
 none_bit m k h = ne_eqb (m / 2 ^ k % 2) 1 (λ q. omega arith)
 
-pub over_of : {b : List ℕ} (ok : Accepted b) (ways : List ℕ) (e : Belt) → Memᴰ e (plan_of b).belts → over_word ways (word_of e) ≡ over_belt ways e
+pub over_of : {b : List ℕ} (ok : Accepted b) (ways : List Way) (e : Belt) → Memᴰ e (plan_of b).belts → over_word ways (word_of e) ≡ over_belt ways e
 over_of ok ways e m = ap (λ (j : ℕ). rest_at ways j + word_of e) (head_of ok e m)
 
 module _ {b : List ℕ} {x : Subproblem} {words numbers : List ℕ} {due forbidden t : ℕ} (q : Asked b x words numbers due forbidden t)
-    (u nearest : ℕ) (ways : List ℕ) (v : ℕ) (l : u < (plan_of b).junctions) (rows : Rows words numbers forbidden nearest ways u v) where
+    (u nearest : ℕ) (ways : List Way) (v : ℕ) (l : u < (plan_of b).junctions) (rows : Rows words numbers forbidden nearest ways u v) where
   -- the head of an open belt, as a place
   near_head : (e : Belt) → Opens b x (suc u) (suc nearest) e → e.leads - 1 ≤ nearest
   near_head e o = omega (arith, o.near)

@@ -6,29 +6,36 @@
 --   turn_piece    else from its head to nearest is a piece, and the way on from nearest is known
 --   turn_dear     the piece is done, and the way over the word is above the limit: so is every route
 --   turn_next     it is not: the state after the turn
+--   way_lost      where there is no route within the bound, the pass answers that there is none
+--   way_found     where there is no required belt left, and the way on from s is known, it answers its cost
 --
 -- Assumes nothing.
 use mathlib.Core.Path.{◌≡◌, sym, ◌∙◌, ap, subst, subst₂}
-use mathlib.Core.Option.{none}
-use Prim.Native.Nat.{ℕ, suc, ◌+◌, ◌*◌, ◌-◌, ◌^◌, ◌≤◌, ◌<◌}
+use mathlib.Core.Option.{Option, none, some}
+use Rattle.std.proofs.Common.{Some, None}
+use Rattle.std.specs.declared.option.Option as answer
+use Prim.Native.Nat.{ℕ, suc, ◌+◌, ◌*◌, ◌-◌, ◌/◌, ◌^◌, ◌≤◌, ◌<◌}
 use mathlib.Core.List.{List}
 use native.Mathlib.Omega.{arith}
 use lib.ListN.{length, get_or}
+use Rattle.plan.specs.Bounds.{max_junctions}
 use Rattle.plan.specs.Plan.{Belt, plan_of}
 use Rattle.plan.specs.Words.{link_limit, way_limit, far, word_head, tail_at}
 use Rattle.plan.specs.Tables.{Arc}
 use Rattle.plan.proofs.Reading.{belt_ends}
+use Rattle.route.specs.declared.ways.Way.{Way}
+use Rattle.route.specs.Routes.{cost}
 use Rattle.route.specs.Subproblems.{Subproblem, relaxed}
 use Rattle.route.specs.Values.{at_most}
-use Rattle.route.specs.Ways.{way_places, Asked, over_word, over_belt, Piece, Ready, Stands, Parted}
+use Rattle.route.specs.Ways.{cost_of, rest_of, Asked, Traces, over_word, over_belt, Piece, Ready, Stands, Parted}
 use Rattle.route.proofs.WaysWords.{head_of}
 use Rattle.route.proofs.WaysTabled.{over_of}
 use Rattle.route.proofs.WaysHighest.{top_set}
 use Rattle.route.proofs.WaysStanding.{entered}
-use Rattle.route.proofs.WaysParting.{no_start, no_route, next_piece, next_ready, dear_way, parted_next}
+use Rattle.route.proofs.WaysParting.{bound_within, no_start, no_route, next_piece, next_ready, dear_way, parted_next}
 
 module _ {b : List ℕ} {x : Subproblem} {words numbers : List ℕ} {due forbidden t : ℕ} (q : Asked b x words numbers due forbidden t)
-    {left nearest : ℕ} {ways : List ℕ} (w : Parted b x words numbers due t left nearest ways)
+    {left nearest : ℕ} {ways : List Way} (w : Parted b x words numbers due t left nearest ways)
     (k : ℕ) (low : 2 ^ k ≤ left) (high : left < 2 ^ suc k) where
   -- the belt at place k
   abbrev next : (u : ℕ) × (e : Belt) × (u < (plan_of b).junctions) × Arc (plan_of b) words numbers u k e
@@ -68,7 +75,7 @@ module _ {b : List ℕ} {x : Subproblem} {words numbers : List ℕ} {due forbidd
       next_ready q w low high arc near_head,
     )
 
-    module _ {ways' : List ℕ} (stands : Stands b x t (word_head (get_or words k 0)) nearest ways') where
+    module _ {ways' : List Way} (stands : Stands b x t (word_head (get_or words k 0)) nearest ways') where
       stands_head : Stands b x t (e.leads - 1) nearest ways'
       stands_head = subst (λ (n : ℕ). Stands b x t n nearest ways') head stands
 
@@ -81,8 +88,24 @@ module _ {b : List ℕ} {x : Subproblem} {words numbers : List ℕ} {due forbidd
           dear_way q w low high arc near_head stands_head s bound (subst (λ (n : ℕ). s ≤ n) tail from) l
           (subst (λ (n : ℕ). bound * link_limit + (link_limit - 1) < n) way h)
 
-      pub turn_next : length ways' ≡ way_places → over_word ways' (get_or words k 0) < far
+      pub turn_next : length ways' ≡ max_junctions → over_word ways' (get_or words k 0) < far
           → Parted b x words numbers due t (left - 2 ^ k) (tail_at numbers k) (entered ways' (tail_at numbers k) (over_word ways' (get_or words k 0)))
       turn_next size h =
           subst₂ (λ (n v : ℕ). Parted b x words numbers due t (left - 2 ^ k) n (entered ways' n v)) (sym tail) (sym way)
           (parted_next q w low high arc near_head stands_head size (subst (λ (n : ℕ). n < far) way h))
+
+-- ---- what is answered
+
+pub way_lost : (o : Option (List Belt)) (ways : List Way) → o ≡ none
+    → (◌≡◌ {A = answer.Option ℕ} None (cost_of o)) × ((r : List Belt) → o ≡ some r → Traces ways r)
+way_lost o ways h = (sym (ap cost_of h), λ r q. cc)
+
+pub way_found : (bound : ℕ) (o : Option (List Belt)) (cost : ℕ) → bound < way_limit → cost ≡ rest_of o → cost ≤ bound * link_limit + (link_limit - 1)
+    → (at_most bound o ≡ o) × (◌≡◌ {A = answer.Option ℕ} (Some (cost / link_limit)) (cost_of (at_most bound o)))
+way_found bound o c low price h =
+    let is = bound_within bound o low (omega arith) in
+    (is, found o price ∙ sym (ap cost_of is))
+  where
+    found : (o : Option (List Belt)) → c ≡ rest_of o → ◌≡◌ {A = answer.Option ℕ} (Some (c / link_limit)) (cost_of o)
+    found none q = absurd (omega arith)
+    found (some r) q = let same : c / link_limit ≡ cost r = omega arith in ap Some same

@@ -22,6 +22,7 @@
 --
 -- Assumes nothing.
 use Rattle.std.specs.Prelude.{◌≡◌, ℕ, ◌*◌, ◌/◌, ◌^◌, ◌≤◌, ◌<◌, Bool, true, false, not, ◌&&◌, List, [], ◌∷◌, get_or, set, eqb, leb, ltb}
+use Rattle.std.specs.Prelude.{Some}
 use Rattle.std.specs.Bool.{beq}
 use Rattle.std.proofs.Math.Option.{Option, none, some}
 use Rattle.plan.specs.Bounds.{max_modes, max_named, max_records}
@@ -38,7 +39,7 @@ use Rattle.route.specs.declared.path.Trip.{Trip}
 use Rattle.route.specs.Routes.{connects, cost, belts_by_index}
 use Rattle.route.specs.Permission.{passes, is_on, agrees_at, wrong_lock, terms_of, works}
 use Rattle.route.specs.Subproblems.{Subproblem, relaxed}
-use Rattle.route.specs.Values.{ids_of, in_mask, LowPlace}
+use Rattle.route.specs.Values.{ids_of, in_mask}
 
 -- ---- clauses
 
@@ -47,11 +48,11 @@ Codable places (OfBelt e wanted) = (e.0 < max_records) × (1 ≤ get_or places e
 Codable places (OfMode m wanted) = (1 ≤ m.0) × (m.0 ≤ max_modes)
 
 abbrev pub LowCoded : Coded → Type 0
-LowCoded (coded.Belt q wanted) = LowPlace q
+LowCoded (coded.Belt k wanted) = k < 64
 LowCoded (coded.Mode m wanted) = (1 ≤ m.0) × (m.0 ≤ max_modes)
 
 abbrev pub is_true : Coded → ℕ → ℕ → Bool
-is_true (coded.Belt q wanted) belts σ = beq (in_mask belts q) wanted
+is_true (coded.Belt k wanted) belts σ = beq (in_mask belts (Some k)) wanted
 is_true (coded.Mode m wanted) belts σ = beq (is_on σ m.0) wanted
 
 abbrev pub stores : (ℕ → ℕ) → List ℕ → List ℕ → List ℕ

@@ -35,6 +35,7 @@ MasksLaw = (b : List ℕ) → Accepted b → (x : Subproblem)
     × ((s t : ℕ) → relaxed (plan_of b) s t (subproblem_in b f) ≡ relaxed (plan_of b) s t x)
 
 pub record Holdable (b : List ℕ) (r : List Belt) : Type 0 where
+  pub few : length r ≤ max_steps
   pub cheap : cost r < unbounded
   pub within : at_most unbounded (some r) ≡ some r
   pub known : Known b (route_of r)
@@ -47,7 +48,7 @@ AnswerLaw = (b : List ℕ) → Accepted b → Bytes b → (s t : ℕ) → 1 ≤ 
     → relaxed (plan_of b) s t x ≡ some r → Holdable b r
 
 abbrev pub ReadBackLaw : Type 0
-ReadBackLaw = (v : Sheet) → v.route.count ≤ max_steps → v.cost < cost_limit
+ReadBackLaw = (v : Sheet) → v.cost < cost_limit
     → (in_form (bytes_of v) ≡ true) × (sheet_in (bytes_of v) ≡ record { route = packed (ids_of v.route); cost = v.cost; setting = v.setting })
 
 -- all of them

@@ -11,16 +11,13 @@
 --   trip_lines           lines 1 to 8 and 15, in the order in which they count: what is asked of a plan and a trip, whatever is done with them
 --   check_lines          those of the sheet check: trip_lines, and 11 to 14
 --   sheet_refusal k      the number of the first broken one, or 0
---   sheet_number v       the paper's number of the check's answer, 0 where it is accepted
 --
--- Assumes nothing.
+-- The check's number is that of its answer (`number_of`, plan/Refusals). Assumes nothing.
 use Rattle.std.specs.Prelude.{ℕ, ◌^◌, Bool, not, ◌&&◌, List, [], ◌∷◌, ◌++◌, map, eqb, ltb}
 use Rattle.plan.specs.Lists.{all, mem}
 use Rattle.plan.specs.Plan.{Belt, plan_of, indices_of}
-use Rattle.plan.specs.Refusals.{Line, about, plan_lines, first_broken, refusal_number}
+use Rattle.plan.specs.Refusals.{Line, about, plan_lines, first_broken}
 use Rattle.route.specs.declared.path.Trip.{Trip}
-use Rattle.route.specs.declared.check.SheetVerdict.{SheetVerdict}
-use Rattle.route.specs.declared.check.SheetVerdict.TheVariants.{Accepted, Refused}
 use Rattle.route.specs.Routes.{wrong_ends, connects, cost, belts_by_index}
 use Rattle.route.specs.Permission.{passes, wrong_lock, terms_of, works}
 use Rattle.route.specs.Sheets.{in_form, belts_on, cost_on, setting_on}
@@ -98,7 +95,3 @@ check_lines = map (about plan_trip) trip_lines ++ sheet_lines
 
 unfoldable pub sheet_refusal : Case → ℕ
 sheet_refusal k = first_broken check_lines k
-
-abbrev pub sheet_number : SheetVerdict → ℕ
-sheet_number Accepted = 0
-sheet_number (Refused r) = refusal_number r

@@ -1,10 +1,10 @@
 -- What the values that the code hands about mean. `Trip`, `Route`, `Sheet`, `Lowest`, `Fixings` and `Summary` are declared by the code.
 --
 --   ids_of r          the indices of the belts that a Route holds: the first `count` of its array
---   packed es        the Route that holds the belts es, the rest of its array 0
+--   packed es        the Route that holds the belts es, the rest of its array 0. A Route has room for max_steps, so of more it holds the first
 --   route_of r        the Route that holds the belts of the route r
 --   first_belts n ns  the Route of the first n belts of an array of indices
---   Known b r        a Route of at most max_steps belts, all of them belts of the plan b
+--   Known b r        all belts of a Route are belts of the plan b
 --   route_in b r      the belts of the plan b that a Route holds
 --   lower_ids es fs   `lower` of routes with the indices es and fs: the order of routes that cost as much
 --   sheet_in h        the Sheet that the bytes h read as
@@ -25,7 +25,7 @@
 --   has_belt b m e    the mask m has belt e of the plan b
 --   at_most c o       the route o, if there is one and it costs at most c
 --   unbounded        a bound that drops no route, and that none costs as much as
---   summary_as b o    the answer that stands for the cost of a route of the plan b, how many belts it has and the named ones, or for none (no_summary)
+--   summary_of b r    the cost of the route r of the plan b, how many belts it has, and the named ones; summary_as b o: that of a route, if there is one
 --   Graph b words numbers places
 --                    the plan b is accepted, and the arrays are its own: its words and their numbers, which are sound and have its belts, and the places of
 --                    its named belts
@@ -45,7 +45,8 @@
 --   case_of b trip h  the case of the sheet check
 --
 -- Assumes nothing.
-use Rattle.std.specs.Prelude.{◌≡◌, ℕ, zero, suc, ◌+◌, ◌*◌, ◌-◌, ◌/◌, ◌%◌, ◌^◌, ◌≤◌, ◌<◌, Bool, true, false, length, get_or, take, replicate, eqb, leb}
+use Rattle.std.specs.Prelude.{◌≡◌, ℕ, zero, suc, ◌+◌, ◌*◌, ◌-◌, ◌/◌, ◌%◌, ◌^◌, ◌≤◌, ◌<◌, Bool, true, false, length, get_or, min, take, replicate, eqb, leb}
+use Rattle.std.proofs.Math.Nat.{min-le_left}
 use Rattle.std.proofs.Math.Option.{Option, none, some}
 use mathlib.Core.List.{List, [], ◌∷◌, ◌++◌, map, Memᴰ}
 use Rattle.std.specs.Int.Bits.{bit_or}
@@ -53,8 +54,8 @@ use Rattle.std.proofs.lemmas.List.Edits.{sets}
 use Rattle.plan.specs.declared.read.BeltId.{BeltId}
 use Rattle.plan.specs.declared.read.Literal.{Literal}
 use Rattle.plan.specs.declared.read.Literal.TheVariants.{OfBelt, OfMode}
-use Rattle.plan.specs.declared.named.Place.{Place}
-use Rattle.plan.specs.declared.named.Place.TheVariants.{At, Unnamed}
+use Rattle.plan.specs.Plan.{Place}
+use Rattle.std.specs.Prelude.{Some, None}
 use Rattle.plan.specs.Bounds.{field_limit, max_records, max_steps}
 use Rattle.plan.specs.Lists.{keep, upto}
 use Rattle.plan.specs.Records.{records}
@@ -62,12 +63,11 @@ use Rattle.plan.specs.Plan.{Belt, plan_of, literal_at, indices_of, named, belt_i
 use Rattle.plan.specs.Words.{way_limit}
 use Rattle.plan.specs.Tables.{Sound, Tabled}
 use Rattle.plan.specs.Reading.{Accepted, Bytes, IsBelt, is_rule_at, is_literal_at, first_rule, next_rule, first_literal, next_literal}
-use Rattle.route.specs.declared.path.Route.{Route}
+use Rattle.route.specs.declared.belts.Route.{Route}
 use Rattle.route.specs.declared.sheet.Sheet.{Sheet}
 use Rattle.route.specs.declared.clauses.Coded.{Coded}
 use Rattle.route.specs.declared.clauses.Coded.TheVariants as coded
-use Rattle.route.specs.declared.modes.Lowest.{Lowest}
-use Rattle.route.specs.declared.modes.Lowest.TheVariants.{Works, Nothing}
+use Rattle.std.specs.declared.option.Option as answer
 use Rattle.route.specs.declared.path.Trip.{Trip}
 use Rattle.route.specs.declared.relax.Fixings.{Fixings}
 use Rattle.route.specs.declared.relax.Summary.{Summary}
@@ -80,7 +80,12 @@ abbrev pub ids_of : Route → List ℕ
 ids_of r = map (λ (e : BeltId). e.0) (take r.count r.belts)
 
 abbrev pub packed : List ℕ → Route
-packed es = record { count = length es; belts = map belt_id es ++ replicate (max_steps - length es) (belt_id 0) }
+packed es =
+    record {
+      count = min max_steps (length es);
+      belts = map belt_id (take max_steps es) ++ replicate (max_steps - length es) (belt_id 0);
+      few = min-le_left max_steps (length es);
+    }
 
 abbrev pub route_of : List Belt → Route
 route_of r = packed (indices_of r)
@@ -89,7 +94,6 @@ abbrev pub first_belts : ℕ → List ℕ → Route
 first_belts n ns = packed (take n ns)
 
 pub record Known (b : List ℕ) (r : Route) : Type 0 where
-  pub few : r.count ≤ max_steps
   pub belts : (e : ℕ) → Memᴰ e (ids_of r) → IsBelt b e
 
 abbrev pub route_in : List ℕ → Route → List Belt
@@ -107,23 +111,23 @@ sheet_in h = record { route = packed (belts_on h); cost = cost_on h; setting = s
 abbrev pub bytes_of : Sheet → List ℕ
 bytes_of v = sheet_of (ids_of v.route) v.cost v.setting
 
-abbrev pub setting_in : Lowest → Option ℕ
-setting_in (Works σ) = some σ
-setting_in Nothing = none
+abbrev pub setting_in : answer.Option ℕ → Option ℕ
+setting_in (Some σ) = some σ
+setting_in None = none
 
 -- ---- subproblems
 
 abbrev pub in_mask : ℕ → Place → Bool
-in_mask m (At k) = eqb (m / 2 ^ k % 2) 1
-in_mask m Unnamed = false
+in_mask m (Some k) = eqb (m / 2 ^ k % 2) 1
+in_mask m None = false
 
 abbrev pub LowPlace : Place → Type 0
-LowPlace (At k) = k < 64
-LowPlace Unnamed = Unit {0}
+LowPlace (Some k) = k < 64
+LowPlace None = Unit {0}
 
 abbrev pub with_place : ℕ → Place → ℕ
-with_place m (At k) = bit_or m (2 ^ k)
-with_place m Unnamed = m
+with_place m (Some k) = bit_or m (2 ^ k)
+with_place m None = m
 
 abbrev pub fixed_in : List ℕ → ℕ → List ℕ
 fixed_in ns m = keep (λ (e : ℕ). in_mask m (place_of ns e)) ns
@@ -158,12 +162,12 @@ at_most c (some r) = elim (leb (cost r) c) [ true ↦ some r | false ↦ none ]
 abbrev pub unbounded : ℕ
 unbounded = way_limit - 1
 
-abbrev pub no_summary : Summary
-no_summary = record { cost = way_limit; count = 0; named = 0 }
+abbrev pub summary_of : List ℕ → List Belt → Summary
+summary_of b r = record { cost = cost r; count = length r; named = mask_of b (indices_of r) }
 
-abbrev pub summary_as : List ℕ → Option (List Belt) → Summary
-summary_as b none = no_summary
-summary_as b (some r) = record { cost = cost r; count = length r; named = mask_of b (indices_of r) }
+abbrev pub summary_as : List ℕ → Option (List Belt) → answer.Option Summary
+summary_as b none = None
+summary_as b (some r) = Some (summary_of b r)
 
 pub record Graph (b words numbers places : List ℕ) : Type 0 where
   pub accepted : Accepted b
@@ -188,7 +192,7 @@ code_in places (OfMode m wanted) = with_bit (with_bit m.0 true) wanted
 
 abbrev pub coded_by : Bool → ℕ → Bool → Coded
 coded_by true n wanted = coded.Mode (record { 0 = n }) wanted
-coded_by false n wanted = coded.Belt (At n) wanted
+coded_by false n wanted = coded.Belt n wanted
 
 abbrev pub coded_in : ℕ → Coded
 coded_in c = coded_by (eqb (c / 2 % 2) 1) (c / 2 / 2) (eqb (c % 2) 1)

@@ -5,7 +5,7 @@
 --   Trail ways i t r   the table leads from place i to place t by the belts r
 --   Placing places     each place that the array `places` has for a belt has a bit in a mask
 --   walk_as places c r  the answer that stands for the route r of cost c, where the array has the places of belts. Where it has those of the named belts of a
---                      plan, it is summary_as of this plan
+--                      plan, it is summary_of this plan
 --
 -- Assumes nothing.
 use Rattle.std.specs.Prelude.{◌≡◌, ℕ, ◌-◌, ◌≤◌, ◌<◌, List, [], ◌∷◌, length}
@@ -13,16 +13,17 @@ use Rattle.plan.specs.Bounds.{max_records}
 use Rattle.plan.specs.Plan.{Belt, indices_of, place_in}
 use Rattle.plan.specs.Words.{link_of}
 use Rattle.route.specs.declared.relax.Summary.{Summary}
+use Rattle.route.specs.declared.ways.Way.{Way}
 use Rattle.route.specs.Values.{LowPlace, gathered_in}
 use Rattle.route.specs.Ways.{link_at}
 
-pub record Leads (ways : List ℕ) (i t : ℕ) (e : Belt) : Type 0 where
+pub record Leads (ways : List Way) (i t : ℕ) (e : Belt) : Type 0 where
   pub link : link_at ways i ≡ link_of e
   pub index : e.index < max_records
   pub up : i < e.leads - 1
   pub top : e.leads - 1 ≤ t
 
-abbrev pub Trail : List ℕ → ℕ → ℕ → List Belt → Type 0
+abbrev pub Trail : List Way → ℕ → ℕ → List Belt → Type 0
 Trail ways i t [] = i ≡ t
 Trail ways i t (e ∷ r) = Leads ways i t e × Trail ways (e.leads - 1) t r
 

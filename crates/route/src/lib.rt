@@ -1,5 +1,6 @@
 // Routes of an accepted plan: which are permitted, and the sheets that record them.
 //
+//   belts   a route as the code holds it
 //   path    what is asked of a route, and its belts: whether they connect, what they cost, and which of two routes comes before the other
 //   rules   whether every rule is met by a route under a setting of the modes
 //   modes   the lowest setting that agrees with the lock and meets every rule
@@ -11,6 +12,7 @@
 //   check   the check of a sheet: lines 1 to 8, 15 and 11 to 14 of the refusal table
 #![tactic(auto)]
 
+pub mod belts;
 pub mod check;
 pub mod clauses;
 pub mod masks;

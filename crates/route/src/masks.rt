@@ -5,28 +5,21 @@ ghost use Rattle.route.specs.Values.{ids_of, in_mask, LowPlace, with_place, gath
 use crate::path::Route;
 use plan::bounds::MAX_RECORDS;
 use plan::named;
-use plan::named::Place;
 
 // Whether a mask has a place.
-pub fn has(mask: u64, place: Place) -> bool
+pub fn has(mask: u64, place: Option<usize>) -> bool
     requires { LowPlace place }
     ensures { result ≡ in_mask mask place }
 {
-    match place {
-        Place::At(k) => (mask >> k) % 2 == 1,
-        Place::Unnamed => false,
-    }
+    place.is_some_and(|k| (mask >> k) % 2 == 1)
 }
 
 // The mask with this place in it.
-pub fn with(mask: u64, place: Place) -> u64
+pub fn with(mask: u64, place: Option<usize>) -> u64
     requires { LowPlace place }
     ensures { result ≡ with_place mask place }
 {
-    match place {
-        Place::At(k) => mask | (1u64 << k),
-        Place::Unnamed => mask,
-    }
+    place.map_or(mask, |k| mask | (1 << k))
 }
 
 // The named belts on a route. `places` are those of the named belts (plan::named::named_places).
@@ -34,12 +27,9 @@ pub fn on_route(places: &[u8; MAX_RECORDS], route: Route) -> u64
     requires { Placeable places.now route }
     ensures { result ≡ gathered_in places.now 0 (ids_of route) }
 {
-    let mut mask = 0u64;
-    let mut k = 0;
-    while k < route.count {
-        let belt = route.belts[k];
+    let mut mask = 0;
+    for &belt in &route.belts[..route.count] {
         mask = with(mask, named::place_of(places, belt));
-        k += 1;
     }
     mask
 }

@@ -3,7 +3,6 @@
 ghost use Rattle.std.specs.Prelude.{◌≡◌, List, ℕ, ◌≤◌};
 ghost use Rattle.plan.specs.Bounds.{max_modes};
 ghost use Rattle.plan.specs.Plan.{plan_of};
-ghost use Rattle.plan.specs.Reading.{Accepted};
 ghost use Rattle.route.specs.Permission.{passes, is_on, all_met};
 ghost use Rattle.route.specs.Values.{Known, route_in, has_belt, Ruled};
 ghost use Rattle.route.specs.Inner.{LowCoded, is_true};
@@ -11,17 +10,18 @@ ghost use Rattle.route.specs.Inner.{LowCoded, is_true};
 use crate::clauses::{Coded, FIELD};
 use crate::path::Route;
 use crate::{clauses, masks};
+use plan::accepted::AcceptedPlan;
 use plan::bounds::MAX_RECORDS;
 use plan::named;
 use plan::read::ModeId;
 
-// Whether a mode is on in a setting, in which mode m counts 2^(m-1).
-fn is_on(setting: u16, mode: ModeId) -> bool
+// Whether a mode is in a set of modes, as a setting or the mask of a lock: bit m-1 is for mode m.
+pub fn is_on(modes: u64, mode: ModeId) -> bool
     requires { (1 ≤ mode.0)
         × (mode.0 ≤ max_modes) }
-    ensures { result ≡ is_on setting mode.0 }
+    ensures { result ≡ is_on modes mode.0 }
 {
-    (setting >> (mode.0 - 1)) % 2 == 1
+    (modes >> (mode.0 - 1)) % 2 == 1
 }
 
 // Whether a literal holds, where the named belts of the mask `belts` are on the route.
@@ -30,8 +30,8 @@ fn holds(literal: Coded, belts: u64, setting: u16) -> bool
     ensures { result ≡ is_true literal belts setting }
 {
     match literal {
-        Coded::Belt(place, wanted) => masks::has(belts, place) == wanted,
-        Coded::Mode(mode, wanted) => is_on(setting, mode) == wanted,
+        Coded::Belt(place, wanted) => masks::has(belts, Some(place)) == wanted,
+        Coded::Mode(mode, wanted) => is_on(u64::from(setting), mode) == wanted,
     }
 }
 
@@ -44,6 +44,7 @@ pub fn all_met(clauses: &[u32], belts: u64, setting: u16) -> bool
         → Ruled b clauses.now
         → result ≡ all_met (plan_of b).rules (has_belt b belts) setting }
 {
+    // A rule of the project asks for this form, two loops of which the outer one has a label (docs/DECISIONS.md, 15).
     let mut next = clauses[0];
     'rules: while next != 0 {
         let rule = clauses[next as usize];
@@ -62,13 +63,12 @@ pub fn all_met(clauses: &[u32], belts: u64, setting: u16) -> bool
 }
 
 // Whether every rule is met by the route under the setting.
-pub fn met_by(p: &[u8], route: Route, setting: u16) -> bool
-    requires { Accepted p.now
-        × Known p.now route }
-    ensures { result ≡ all_met (plan_of p.now).rules (passes (route_in p.now route)) setting }
+pub fn met_by(plan: AcceptedPlan, route: Route, setting: u16) -> bool
+    requires { Known plan.bytes.now route }
+    ensures { result ≡ all_met (plan_of plan.entry.bytes.now).rules (passes (route_in plan.entry.bytes.now route)) setting }
 {
-    let places = named::named_places(p);
+    let places = plan.named_places();
     let mut clauses = [0u32; MAX_RECORDS];
-    clauses::decode(p, &places, &mut clauses);
+    clauses::decode(plan, &places, &mut clauses);
     all_met(&clauses, masks::on_route(&places, route), setting)
 }

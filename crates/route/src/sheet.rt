@@ -11,7 +11,7 @@ use plan::bounds::{FIELD_LIMIT, MAX_SHEET_BYTES, MAX_STEPS, RECORD_BYTES};
 use plan::read::BeltId;
 use plan::record;
 
-// The kinds of records, field 0.
+// The kinds of records, field 0. They are numbers in the bytes that no value holds, so an enum would be no plainer.
 pub const SHEET: u16 = 8;
 
 pub const STEP: u16 = 5;
@@ -34,10 +34,7 @@ fn next_of(count: usize, i: usize) -> u16
     requires { count ≤ max_steps }
     ensures { result ≡ next_of count i }
 {
-    if i < count {
-        return (i + 1) as u16;
-    }
-    0
+    if i < count { (i + 1) as u16 } else { 0 }
 }
 
 // Whether record 0 is in the form of a sheet.
@@ -57,19 +54,11 @@ fn step_fits(h: &[u8], count: usize, i: usize) -> bool
         × (record_bytes * i + record_bytes ≤ length h.now) }
     ensures { result ≡ step_fits h.now i }
 {
-    if record::field(h, i, 0) != STEP {
-        return false;
-    }
-    if record::field(h, i, 1) != next_of(count, i) {
-        return false;
-    }
-    if record::field(h, i, 3) != 0 {
-        return false;
-    }
-    if record::field(h, i, 4) != 0 {
-        return false;
-    }
-    record::field(h, i, 5) == 0
+    record::field(h, i, 0) == STEP
+        && record::field(h, i, 1) == next_of(count, i)
+        && record::field(h, i, 3) == 0
+        && record::field(h, i, 4) == 0
+        && record::field(h, i, 5) == 0
 }
 
 // Whether the bytes are in the form of a sheet, whatever belts, cost and setting they hold.
@@ -77,27 +66,12 @@ pub fn in_form(h: &[u8]) -> bool
     ensures { result ≡ in_form h.now }
 {
     let n = h.len();
-    if n < RECORD_BYTES {
+    if !(RECORD_BYTES..=MAX_SHEET_BYTES).contains(&n) || n % RECORD_BYTES != 0 {
         return false;
     }
-    if MAX_SHEET_BYTES < n {
-        return false;
-    }
-    if n % RECORD_BYTES != 0 {
-        return false;
-    }
-    let count = n / RECORD_BYTES - 1;
-    if !head_fits(h, count) {
-        return false;
-    }
-    let mut i = 1;
-    while i <= count {
-        if !step_fits(h, count, i) {
-            return false;
-        }
-        i += 1;
-    }
-    true
+    let records = n / RECORD_BYTES;
+    let count = records - 1;
+    head_fits(h, count) && (1..records).all(|i| step_fits(h, count, i))
 }
 
 // The belts of the steps.
@@ -107,23 +81,10 @@ fn read_route(h: &[u8]) -> Route
 {
     let count = h.len() / RECORD_BYTES - 1;
     let mut belts = [BeltId(0); MAX_STEPS];
-    let mut k = 0;
-    while k < count {
+    for k in 0..count {
         belts[k] = BeltId(record::field(h, k + 1, 2));
-        k += 1;
     }
-    Route {
-        count: count,
-        belts: belts,
-    }
-}
-
-// The number as 64 bits. The contract tells the bound by which the sum of `read_cost` fits.
-fn wide(x: u16) -> u64
-    ensures { (result ≡ x)
-        × (result < field_limit) }
-{
-    x as u64
+    Route { count, belts }
 }
 
 // The cost, in fields 2 to 4, high first.
@@ -131,9 +92,9 @@ fn read_cost(h: &[u8]) -> u64
     requires { record_bytes ≤ length h.now }
     ensures { result ≡ cost_on h.now }
 {
-    let high = wide(record::field(h, 0, 2));
-    let middle = wide(record::field(h, 0, 3));
-    let low = wide(record::field(h, 0, 4));
+    let high = u64::from(record::field(h, 0, 2));
+    let middle = u64::from(record::field(h, 0, 3));
+    let low = u64::from(record::field(h, 0, 4));
     high * HIGH + middle * MIDDLE + low
 }
 
@@ -142,13 +103,10 @@ pub fn read(h: &[u8]) -> Sheet
     requires { in_form h.now ≡ true }
     ensures { result ≡ sheet_in h.now }
 {
-    let route = read_route(h);
-    let cost = read_cost(h);
-    let setting = record::field(h, 0, 5);
     Sheet {
-        route: route,
-        cost: cost,
-        setting: setting,
+        route: read_route(h),
+        cost: read_cost(h),
+        setting: record::field(h, 0, 5),
     }
 }
 
@@ -162,29 +120,27 @@ fn put_head(out: &mut [u8], count: usize, cost: u64, setting: u16)
     let high = (cost / HIGH) as u16;
     let middle = (cost / MIDDLE % MIDDLE) as u16;
     let low = (cost % MIDDLE) as u16;
-    record::put_record(out, 0, SHEET, next_of(count, 0), high, middle, low, setting);
+    record::put_record(
+        out,
+        0,
+        [SHEET, next_of(count, 0), high, middle, low, setting],
+    );
 }
 
 // A step for each belt of the route, from record 1 on.
 fn put_steps(out: &mut [u8], route: Route)
-    requires { (route.count ≤ max_steps)
-        × (record_bytes * route.count + record_bytes ≤ length out.old) }
+    requires { record_bytes * route.count + record_bytes ≤ length out.old }
     ensures { out.new ≡ placed out.old record_bytes (steps_from route.count 1 (ids_of route)) }
 {
-    let belts = route.belts;
-    let count = route.count;
-    let mut k = 0;
-    while k < count {
-        let belt = belts[k];
-        record::put_record(out, k + 1, STEP, next_of(count, k + 1), belt.0, 0, 0, 0);
-        k += 1;
+    for (k, belt) in route.belts().iter().enumerate() {
+        let next = next_of(route.count, k + 1);
+        record::put_record(out, k + 1, [STEP, next, belt.0, 0, 0, 0]);
     }
 }
 
 // Writes the sheet to the start of the buffer, and answers its length. Bytes behind it do not change.
 pub fn write(out: &mut [u8], sheet: Sheet) -> usize
-    requires { (sheet.route.count ≤ max_steps)
-        × (sheet.cost < cost_limit)
+    requires { (sheet.cost < cost_limit)
         × (record_bytes * sheet.route.count + record_bytes ≤ length out.old) }
     ensures { (result ≡ length (bytes_of sheet))
         × (out.new ≡ bytes_of sheet ++ drop result out.old) }

@@ -1,6 +1,7 @@
 -- What the planner replies: its numbers and the out buffer are those of the outcome. The one idea: each answer of the code belongs to one
 -- outcome (the sheet of a best route, an ending of the run, a broken line), and the request comes to that outcome.
 --
+--   or_none             a setting that was looked for, or 0
 --   written_best        the sheet of the best route of a search that found it
 --   found_held          a run that ends with a route holds one
 --   turn_ended, turn_found
@@ -19,6 +20,9 @@ use mathlib.Core.List.{List, [], ◌∷◌, ◌++◌, map}
 use native.Mathlib.Omega.{arith}
 use lib.ListN.{length, drop}
 use borrow.Author.Tests.{lt-ltb, le-ltb}
+use Rattle.std.specs.Prelude as code
+use Rattle.std.specs.Prelude.{Some, None}
+use Rattle.std.specs.Option.{unwrap_or}
 use Rattle.plan.specs.declared.refusal.Refusal.{Refusal}
 use Rattle.plan.specs.Bounds.{max_sheet_bytes}
 use Rattle.plan.specs.Plan.{Belt, plan_of}
@@ -27,17 +31,17 @@ use Rattle.plan.specs.Claims.{Unbroken}
 use Rattle.plan.specs.Reading.{Accepted}
 use Rattle.plan.proofs.LineFirst.{front_first, on_broken, on_unbroken, past, passed, first_about, unbroken_about}
 use Rattle.plan.proofs.LineNumbers.{nonzero}
-use Rattle.route.specs.declared.path.Route.{Route}
+use Rattle.route.specs.declared.belts.Route.{Route}
 use Rattle.route.specs.declared.path.Trip.{Trip}
 use Rattle.route.specs.Routes.{cost}
 use Rattle.route.specs.Permission.{Terms, terms_of}
 use Rattle.route.specs.Sheets.{sheet_of}
 use Rattle.route.specs.Refusals.{trip_lines}
-use Rattle.route.specs.Values.{ids_of, Known, route_in}
+use Rattle.route.specs.Values.{ids_of, Known, route_in, setting_in}
 use Rattle.route.proofs.RouteIndices.{known_indices}
 use Rattle.search.specs.declared.state.Search.{Search}
 use Rattle.search.specs.declared.state.Stepped.{Stepped}
-use Rattle.search.specs.declared.state.Ending as code
+use Rattle.search.specs.declared.state.Ending as ending
 use Rattle.search.specs.declared.state.Ending.TheVariants.{Found}
 use Rattle.search.specs.declared.query.Query.{Query}
 use Rattle.search.specs.Search.{found_route, Turn, setting_of, run}
@@ -47,6 +51,10 @@ use Rattle.search.specs.Inner.{best_of}
 use Rattle.search.proofs.RunSteps.{run_found}
 
 -- ---- the sheet of the best route
+
+pub or_none : (o : code.Option ℕ) → unwrap_or o 0 ≡ or_zero (setting_in o)
+or_none (Some σ) = refl
+or_none None = refl
 
 -- c, σ and size are the sheet's cost, setting and length
 pub written_best : {b : List ℕ} → Accepted b → (trip : Trip) (v : Search) → Known b v.best → (c σ size : ℕ) (before after : List ℕ)
@@ -69,18 +77,18 @@ module _ (b : List ℕ) (q : Query) (v : Stepped) (same : turn_in b v ≡ run (p
   abbrev terms : Terms
   terms = terms_of (plan_of b) q.trip
 
-  pub found_held : v.ending ≡ Found → is_held v.search.bound ≡ true
+  pub found_held : v.ending ≡ Some Found → is_held v.search.bound ≡ true
   found_held e =
       let (r, h) = run_found (problem_in b q) q.budget (sym (ap (λ (x : Turn). x.ending) same) ∙ ap ending_in e) in
       held b (is_held v.search.bound) v.search.best r (ap (λ (x : Turn). x.state.best) same ∙ h)
 
-  pub turn_ended : (out : List ℕ) (x : code.Ending) → v.ending ≡ x
+  pub turn_ended : (out : List ℕ) (x : code.Option ending.Ending) → v.ending ≡ x
       → ended_by terms (state_in b v.search) (ending_in x) ≡ unless_refused 0 (request_of b q out)
-  turn_ended out x e = ap (λ (y : code.Ending). ended_by terms (state_in b v.search) (ending_in y)) (sym e) ∙ ap (ended terms) same
+  turn_ended out x e = ap (λ (y : code.Option ending.Ending). ended_by terms (state_in b v.search) (ending_in y)) (sym e) ∙ ap (ended terms) same
 
-  pub turn_found : (out : List ℕ) → v.ending ≡ Found → best_of b q.trip v.search ≡ unless_refused 0 (request_of b q out)
+  pub turn_found : (out : List ℕ) → v.ending ≡ Some Found → best_of b q.trip v.search ≡ unless_refused 0 (request_of b q out)
   turn_found out e =
-      ap (λ (t : Bool). ending_of terms v.search.opened (best_in b t v.search.best) found_route) (sym (found_held e)) ∙ turn_ended out Found e
+      ap (λ (t : Bool). ending_of terms v.search.opened (best_in b t v.search.best) found_route) (sym (found_held e)) ∙ turn_ended out (Some Found) e
 
 -- ---- the first broken line
 

@@ -3,17 +3,17 @@
 --   stands            at each place below their count stands a named belt, and this is its place
 --   gathered_at       a mask gathered from belts has the place of a named belt exactly when the belt is among them
 -- The mask of a rule, literal by literal:
---   Gathering b places first l m
---                     Invariant: adding the belts of the literals from l on to the mask m gives the mask of those from `first` on
---   gathering_start, -low, -belt, -mode, -end, -shorter
---                     it holds at first; the belt of a literal can be looked up, and is added to the mask; a mode leaves the mask as it is;
---                     at the end no literal is left; the measure falls: the chain gets shorter
+--   Gathering b places first o m
+--                     Invariant: adding the belts of the literals from o on to the mask m gives the mask of those from `first` on
+--   gathering_start, -low, -belt, -other, -end, -shorter
+--                     it holds at first; the belt of a literal can be looked up, and is added to the mask; another literal leaves the mask as it
+--                     is; at the end no literal is left; the measure falls: the chain gets shorter
 -- The counts with one rule more, place by place:
 --   with_none, with_same, with_next
 --                     they begin as they were; the next place adds one if the mask has it, else nothing
 --   with_now          a place that is not looked at yet has its old count
 -- The counts of all rules, rule by rule:
---   Tallied b r xs    Invariant: adding the rules from r on to the counts xs gives the counts of all rules
+--   Tallied b o xs    Invariant: adding the rules from o on to the counts xs gives the counts of all rules
 --   tallied_start, -few, -next, -end, -shorter
 --                     it holds at first; no count overflows; the next rule adds its belts; at the end xs is counts_of; the measure falls
 --   counts_at         the count at a place is that of the belt there
@@ -32,24 +32,25 @@ use lib.Seq.{get_or-set_same, get_or-set_other, get_or-append-add, ext_get_or}
 use lib.Dec.{eqb, ltb}
 use borrow.Author.Tests.{eqb-true, eqb-false, lt-ltb, le-ltb, ltb-true, ltb-false}
 use Rattle.plan.specs.declared.read.BeltId.{BeltId}
-use Rattle.plan.specs.declared.read.ModeId.{ModeId}
+use Rattle.plan.specs.declared.read.RuleId.{RuleId}
+use Rattle.plan.specs.declared.read.LiteralId.{LiteralId}
 use Rattle.plan.specs.declared.read.Literal.{Literal}
 use Rattle.plan.specs.declared.read.Literal.TheVariants.{OfBelt, OfMode}
-use Rattle.plan.specs.declared.named.Place.TheVariants.{At}
+use Rattle.std.specs.Prelude as code
+use Rattle.std.specs.Prelude.{Some, None, IfSome}
 use Rattle.plan.specs.Bounds.{max_named, max_records}
 use Rattle.plan.specs.Lists.{count_by, count, mem, iota}
 use Rattle.plan.specs.Plan.{plan_of, literal_at, rule_at, named, in_rule, place_of, places_of, place_in}
-use Rattle.plan.specs.Reading.{Accepted, IsRule, IsLiteral, first_rule, next_rule, first_literal, next_literal, rules_from, literals_from}
+use Rattle.plan.specs.Reading.{Accepted, IsRule, IsLiteral, first_rule, next_rule, first_literal, next_literal, rules_from, literals_from, rule_link, literal_link}
 use Rattle.plan.proofs.Lists.{test, alike, length_iota, get_d_iota, map_iota}
 use Rattle.plan.proofs.ListCounts.{count_few}
 use Rattle.plan.proofs.ListRising.{Rises}
 use Rattle.plan.proofs.NamedBelts.{named_rises}
 use Rattle.plan.proofs.NamedPlaces.{at_place, place_at, place_in_lem}
-use Rattle.plan.proofs.Reading.{rules_from_lem, rules_end, rules_next, first_rule_is, next_rule_is, belt_low, rule_in_lem, rules_few, literal_belt, named_few}
-use Rattle.plan.proofs.Reading.{literals_end, literals_next, first_literal_is, next_literal_is}
+use Rattle.plan.proofs.Reading.{rules_from_lem, rules_end, rules_next, belt_low, rule_in_lem, rules_few, literal_belt, named_few}
+use Rattle.plan.proofs.Reading.{literals_end, literals_next}
 use Rattle.route.specs.Values.{in_mask, named_places, with_place, gathered_in}
 use Rattle.route.proofs.MaskFixings.{gathered_from}
-use Rattle.route.proofs.RulesScan.{rule_shorter, literal_shorter}
 use Rattle.search.specs.Branching.{rule_count}
 use Rattle.search.specs.Values.{counts_of}
 use Rattle.search.specs.Inner.{belts_in, with_rule}
@@ -57,14 +58,14 @@ use Rattle.search.specs.Inner.{belts_in, with_rule}
 -- ---- masks of belts
 
 module _ {ns : List ℕ} (rises : Rises ns) (k : ℕ) (l : k < length ns) where
-  pub stands : Memᴰ (get_or ns k 0) ns × (place_of ns (get_or ns k 0) ≡ At k)
+  pub stands : Memᴰ (get_or ns k 0) ns × (place_of ns (get_or ns k 0) ≡ Some k)
   stands =
       let (e, m, q) = place_at rises k l in
       let same : get_or ns k 0 ≡ e = sym (ap (λ (j : ℕ). get_or ns j 0) q) ∙ (at_place e rises m).0 in
-      (Memᴰ.cast same m, ap (place_of ns) same ∙ place_in_lem e ns m ∙ ap (λ (j : ℕ). At j) q)
+      (Memᴰ.cast same m, ap (place_of ns) same ∙ place_in_lem e ns m ∙ ap (λ (j : ℕ). Some j) q)
 
   pub gathered_at : {places : List ℕ} → places ≡ places_of ns → (es : List ℕ) → ((e : ℕ) → Memᴰ e es → e < max_records)
-      → in_mask (gathered_in places 0 es) (At k) ≡ mem (get_or ns k 0) es
+      → in_mask (gathered_in places 0 es) (Some k) ≡ mem (get_or ns k 0) es
   gathered_at {places} all es low =
       sym (ap (in_mask (gathered_in places 0 es)) stands.1) ∙ gathered_from rises all es low (get_or ns k 0) stands.0
 
@@ -99,50 +100,59 @@ module _ {b : List ℕ} (ok : Accepted b) where
 
 -- ---- the mask of a rule, literal by literal
 
-pub record Gathering (b places : List ℕ) (first l m : ℕ) : Type 0 where
-  pub is_literal : (l ≡ 0 → ⊥) → IsLiteral b l
-  pub low : (x : BeltId) (w : Bool) → Memᴰ (OfBelt x w) (literals_from b l) → x.0 < max_records
-  pub whole : gathered_in places m (belts_in (literals_from b l)) ≡ gathered_in places 0 (belts_in (literals_from b first))
+pub record Gathering (b places : List ℕ) (first : ℕ) (o : code.Option LiteralId) (m : ℕ) : Type 0 where
+  pub is_literal : IfSome o (λ l. IsLiteral b l.0)
+  pub low : (x : BeltId) (w : Bool) → Memᴰ (OfBelt x w) (literals_from b (literal_link o)) → x.0 < max_records
+  pub whole : gathered_in places m (belts_in (literals_from b (literal_link o))) ≡ gathered_in places 0 (belts_in (literals_from b first))
 
 module _ {b : List ℕ} (ok : Accepted b) {places : List ℕ} where
-  pub gathering_start : (r : ℕ) → IsRule b r → (l : ℕ) → l ≡ first_literal b r → Gathering b places l l 0
-  gathering_start r o l e =
-      subst (λ (i : ℕ). Gathering b places i i 0) (sym e) (record { is_literal = first_literal_is ok r o; low = named_low ok r o; whole = refl })
+  pub gathering_start : (r : ℕ) → IsRule b r → (o : code.Option LiteralId) → literal_link o ≡ first_literal b r → IfSome o (λ l. IsLiteral b l.0)
+      → Gathering b places (first_literal b r) o 0
+  gathering_start r is_rule o e is = record {
+    is_literal = is;
+    low = λ x w i. named_low ok r is_rule x w (subst (λ (n : ℕ). Memᴰ (OfBelt x w) (literals_from b n)) e i);
+    whole = ap (λ (n : ℕ). gathered_in places 0 (belts_in (literals_from b n))) e;
+  }
 
-  pub gathering_end : {first l m : ℕ} → Gathering b places first l m → l ≡ 0 → m ≡ gathered_in places 0 (belts_in (literals_from b first))
-  gathering_end {first} {l} {m} h e =
-      sym (ap (λ (i : ℕ). gathered_in places m (belts_in (literals_from b i))) e ∙ ap (λ (ls : List Literal). gathered_in places m (belts_in ls)) (literals_end ok))
-      ∙ h.whole
+  pub gathering_end : {first m : ℕ} → Gathering b places first None m → m ≡ gathered_in places 0 (belts_in (literals_from b first))
+  gathering_end {first} {m} h = sym (ap (λ (ls : List Literal). gathered_in places m (belts_in ls)) (literals_end ok)) ∙ h.whole
 
-  module _ {first l m : ℕ} (h : Gathering b places first l m) (d : l ≡ 0 → ⊥) where
-    here : literals_from b l ≡ literal_at b l ∷ literals_from b (next_literal b l)
-    here = literals_next ok l (h.is_literal d)
+  module _ {first m : ℕ} {l : LiteralId} (h : Gathering b places first (Some l) m) where
+    here : literals_from b l.0 ≡ literal_at b l.0 ∷ literals_from b (next_literal b l.0)
+    here = literals_next ok l.0 h.is_literal
 
-    pub gathering_low : (x : BeltId) (w : Bool) → OfBelt x w ≡ literal_at b l → x.0 < max_records
+    pub gathering_low : (x : BeltId) (w : Bool) → OfBelt x w ≡ literal_at b l.0 → x.0 < max_records
     gathering_low x w e = h.low x w (subst (Memᴰ (OfBelt x w)) (sym here) (Memᴰ.head e))
 
-    -- a literal less is left, and the mask has what it names
-    next : (y : Literal) → y ≡ literal_at b l → (n : ℕ) → n ≡ next_literal b l → (m' : ℕ)
-        → gathered_in places m' (belts_in (literals_from b (next_literal b l))) ≡ gathered_in places m (belts_in (y ∷ literals_from b (next_literal b l)))
-        → Gathering b places first n m'
-    next y e n s m' q = subst (λ (i : ℕ). Gathering b places first i m') (sym s) (record {
-      is_literal = λ z. (next_literal_is ok l (h.is_literal d) z).1;
-      low = λ x w i. h.low x w (subst (Memᴰ (OfBelt x w)) (sym here) (Memᴰ.tail i));
-      whole = q
-          ∙ ap (λ (z : Literal). gathered_in places m (belts_in (z ∷ literals_from b (next_literal b l)))) e
-          ∙ sym (ap (λ (ls : List Literal). gathered_in places m (belts_in ls)) here)
-          ∙ h.whole;
-    })
+    -- what is left behind it
+    module _ (o : code.Option LiteralId) (s : literal_link o ≡ next_literal b l.0) where
+      pub gathering_shorter : length (literals_from b (literal_link o)) < length (literals_from b l.0)
+      gathering_shorter = let left = ap (λ (n : ℕ). length (literals_from b n)) s in let more = ap length here in omega arith
 
-    pub gathering_belt : (x : BeltId) (w : Bool) → OfBelt x w ≡ literal_at b l → (n : ℕ) → n ≡ next_literal b l
-        → Gathering b places first n (with_place m (place_in places x.0))
-    gathering_belt x w e n s = next (OfBelt x w) e n s (with_place m (place_in places x.0)) refl
+      -- a literal less is left, and the mask has what it names
+      next : IfSome o (λ k. IsLiteral b k.0) → (y : Literal) → y ≡ literal_at b l.0 → (m' : ℕ)
+          → gathered_in places m' (belts_in (literals_from b (next_literal b l.0))) ≡ gathered_in places m (belts_in (y ∷ literals_from b (next_literal b l.0)))
+          → Gathering b places first o m'
+      next is y e m' q = record {
+        is_literal = is;
+        low = λ x w i. h.low x w (subst (Memᴰ (OfBelt x w)) (sym here) (Memᴰ.tail (subst (λ (n : ℕ). Memᴰ (OfBelt x w) (literals_from b n)) s i)));
+        whole = ap (λ (n : ℕ). gathered_in places m' (belts_in (literals_from b n))) s
+            ∙ q
+            ∙ ap (λ (z : Literal). gathered_in places m (belts_in (z ∷ literals_from b (next_literal b l.0)))) e
+            ∙ sym (ap (λ (ls : List Literal). gathered_in places m (belts_in ls)) here)
+            ∙ h.whole;
+      }
 
-    pub gathering_mode : (x : ModeId) (w : Bool) → OfMode x w ≡ literal_at b l → (n : ℕ) → n ≡ next_literal b l → Gathering b places first n m
-    gathering_mode x w e n s = next (OfMode x w) e n s m refl
+      pub gathering_belt : IfSome o (λ k. IsLiteral b k.0) → (x : BeltId) (w : Bool) → OfBelt x w ≡ literal_at b l.0
+          → Gathering b places first o (with_place m (place_in places x.0))
+      gathering_belt is x w e = next is (OfBelt x w) e (with_place m (place_in places x.0)) refl
 
-    pub gathering_shorter : (n : ℕ) → n ≡ next_literal b l → length (literals_from b n) < length (literals_from b l)
-    gathering_shorter n e = literal_shorter ok l (h.is_literal d) n e
+      pub gathering_other : IfSome o (λ k. IsLiteral b k.0) → ((x : BeltId) (w : Bool) → literal_at b l.0 ≡ OfBelt x w → ⊥) → Gathering b places first o m
+      gathering_other is none = go (literal_at b l.0) refl
+        where
+          go : (y : Literal) → literal_at b l.0 ≡ y → Gathering b places first o m
+          go (OfBelt x w) e = absurd (none x w e)
+          go (OfMode x w) e = next is (OfMode x w) (sym e) m refl
 
 -- ---- one rule more
 
@@ -215,16 +225,16 @@ module _ (on : ℕ → Bool) (xs : List ℕ) where
       go (inr t) = get_or-eq_default (seen_to size k) 0 (omega (arith, ltb-false i size t, length_seen size k))
 
 abbrev on : ℕ → ℕ → Bool
-on m k = in_mask m (At k)
+on m k = in_mask m (Some k)
 
 module _ (m : ℕ) (xs : List ℕ) where
   pub with_none : length xs ≡ max_named → xs ≡ with_rule xs 0 m
   with_none = seen_none (on m) xs max_named
 
-  pub with_same : (k : ℕ) → in_mask m (At k) ≡ false → with_rule xs k m ≡ with_rule xs (k + 1) m
+  pub with_same : (k : ℕ) → in_mask m (Some k) ≡ false → with_rule xs k m ≡ with_rule xs (k + 1) m
   with_same = seen_same (on m) xs max_named
 
-  pub with_next : (k : ℕ) → k < max_named → in_mask m (At k) ≡ true → set (with_rule xs k m) k (get_or (with_rule xs k m) k 0 + 1) ≡ with_rule xs (k + 1) m
+  pub with_next : (k : ℕ) → k < max_named → in_mask m (Some k) ≡ true → set (with_rule xs k m) k (get_or (with_rule xs k m) k 0 + 1) ≡ with_rule xs (k + 1) m
   with_next = seen_next (on m) xs max_named
 
   pub with_now : (k : ℕ) → k < max_named → get_or (with_rule xs k m) k 0 ≡ get_or xs k 0
@@ -247,10 +257,10 @@ counted_sum false m n = refl
 abbrev in_rules : List ℕ → ℕ → List (List Literal) → ℕ
 in_rules b k rules = count (in_rule (get_or (named (plan_of b)) k 0)) rules
 
-pub record Tallied (b : List ℕ) (r : ℕ) (xs : List ℕ) : Type 0 where
-  pub is_rule : (r ≡ 0 → ⊥) → IsRule b r
+pub record Tallied (b : List ℕ) (o : code.Option RuleId) (xs : List ℕ) : Type 0 where
+  pub is_rule : IfSome o (λ r. IsRule b r.0)
   pub size : length xs ≡ max_named
-  pub whole : (k : ℕ) → k < length (named (plan_of b)) → get_or xs k 0 + in_rules b k (rules_from b r) ≡ in_rules b k (plan_of b).rules
+  pub whole : (k : ℕ) → k < length (named (plan_of b)) → get_or xs k 0 + in_rules b k (rules_from b (rule_link o)) ≡ in_rules b k (plan_of b).rules
   pub spare : (k : ℕ) → length (named (plan_of b)) ≤ k → get_or xs k 0 ≡ 0
 
 pub counts_at : (b : List ℕ) (k : ℕ) → k < length (named (plan_of b)) → get_or (counts_of (plan_of b)) k 0 ≡ rule_count (plan_of b) (get_or (named (plan_of b)) k 0)
@@ -294,65 +304,66 @@ module _ {b : List ℕ} (ok : Accepted b) where
   abbrev ns : List ℕ
   ns = named (plan_of b)
 
-  pub tallied_start : (n : ℕ) → n ≡ first_rule b → Tallied b n (replicate max_named 0)
-  tallied_start n e = subst (λ (r : ℕ). Tallied b r (replicate max_named 0)) (sym e) (record {
-    is_rule = first_rule_is ok;
+  pub tallied_start : (o : code.Option RuleId) → rule_link o ≡ first_rule b → IfSome o (λ r. IsRule b r.0) → Tallied b o (replicate max_named 0)
+  tallied_start o e is = record {
+    is_rule = is;
     size = length-replicate {A = ℕ} max_named 0;
-    whole = λ k l. omega (arith, fresh_at max_named k, ap (in_rules b k) (rules_from_lem ok));
+    whole = λ k l. omega (arith, fresh_at max_named k, ap (λ (n : ℕ). in_rules b k (rules_from b n)) e, ap (in_rules b k) (rules_from_lem ok));
     spare = λ k l. fresh_at max_named k;
-  })
+  }
 
-  pub tallied_few : {r : ℕ} {xs : List ℕ} → Tallied b r xs → (k : ℕ) → get_or xs k 0 < 65535
-  tallied_few {r} {xs} h k = go (test (ltb k (length ns)))
+  pub tallied_few : {o : code.Option RuleId} {xs : List ℕ} → Tallied b o xs → (k : ℕ) → get_or xs k 0 < 65535
+  tallied_few {o} {xs} h k = go (test (ltb k (length ns)))
     where
       go : (ltb k (length ns) ≡ true) ⊎ (ltb k (length ns) ≡ false) → get_or xs k 0 < 65535
       go (inl t) = omega (arith, h.whole k (ltb-true k (length ns) t), count_few (in_rule (get_or ns k 0)) (plan_of b).rules, rules_few ok)
       go (inr t) = omega (arith, h.spare k (ltb-false k (length ns) t))
 
-  pub tallied_end : {r : ℕ} {xs : List ℕ} → Tallied b r xs → r ≡ 0 → xs ≡ counts_of (plan_of b)
-  tallied_end {r} {xs} h e =
+  pub tallied_end : {xs : List ℕ} → Tallied b None xs → xs ≡ counts_of (plan_of b)
+  tallied_end {xs} h =
       ext_get_or 0 xs (counts_of (plan_of b)) (h.size ∙ sym full) (λ k l. go k (test (ltb k (length ns))))
     where
       full : length (counts_of (plan_of b)) ≡ max_named
       full = length_counts ok
 
-      none : (k : ℕ) → in_rules b k (rules_from b r) ≡ 0
-      none k = ap (λ (i : ℕ). in_rules b k (rules_from b i)) e ∙ ap (in_rules b k) (rules_end ok)
+      none : (k : ℕ) → in_rules b k (rules_from b 0) ≡ 0
+      none k = ap (in_rules b k) (rules_end ok)
 
       go : (k : ℕ) → (ltb k (length ns) ≡ true) ⊎ (ltb k (length ns) ≡ false) → get_or xs k 0 ≡ get_or (counts_of (plan_of b)) k 0
       go k (inl t) = let l = ltb-true k (length ns) t in omega (arith, h.whole k l, none k, counts_at b k l)
       go k (inr t) = let l = ltb-false k (length ns) t in h.spare k l ∙ sym (counts_past b k l)
 
-  module _ {r : ℕ} {xs : List ℕ} (h : Tallied b r xs) (d : r ≡ 0 → ⊥) where
-    pub tallied_shorter : (n : ℕ) → n ≡ next_rule b r → length (rules_from b n) < length (rules_from b r)
-    tallied_shorter n e = rule_shorter ok r (h.is_rule d) n e
+  module _ {r : RuleId} {xs : List ℕ} (h : Tallied b (Some r) xs) (o : code.Option RuleId) (e : rule_link o ≡ next_rule b r.0) where
+    pub tallied_shorter : length (rules_from b (rule_link o)) < length (rules_from b r.0)
+    tallied_shorter =
+        let left = ap (λ (n : ℕ). length (rules_from b n)) e in let more = ap length (rules_next ok r.0 h.is_rule) in omega arith
 
-    pub tallied_next : {places : List ℕ} → places ≡ named_places b → (m : ℕ) → m ≡ gathered_in places 0 (belts_in (rule_at b r))
-        → (ys : List ℕ) → ys ≡ with_rule xs (length ns) m → (n : ℕ) → n ≡ next_rule b r → Tallied b n ys
-    tallied_next {places} all m q ys w n e = subst (λ (i : ℕ). Tallied b i ys) (sym e) (record {
-      is_rule = λ z. (next_rule_is ok r (h.is_rule d) z).1;
+    pub tallied_next : IfSome o (λ q. IsRule b q.0) → {places : List ℕ} → places ≡ named_places b → (m : ℕ) → m ≡ gathered_in places 0 (belts_in (rule_at b r.0))
+        → (ys : List ℕ) → ys ≡ with_rule xs (length ns) m → Tallied b o ys
+    tallied_next is {places} all m q ys w = record {
+      is_rule = is;
       size = ap length w ∙ length_seen (on m) xs max_named (length ns);
-      whole = more;
+      whole = λ k l. ap (λ (n : ℕ). get_or ys k 0 + in_rules b k (rules_from b n)) e ∙ more k l;
       spare = λ k l. ap (λ (zs : List ℕ). get_or zs k 0) w ∙ seen_past (on m) xs max_named (length ns) k l (h.spare k l);
-    })
+    }
       where
         -- the mask has a place exactly when the belt there is in the rule
-        has : (k : ℕ) → k < length ns → in_mask m (At k) ≡ in_rule (get_or ns k 0) (rule_at b r)
+        has : (k : ℕ) → k < length ns → in_mask m (Some k) ≡ in_rule (get_or ns k 0) (rule_at b r.0)
         has k l =
-            ap (λ (a : ℕ). in_mask a (At k)) q
-            ∙ gathered_at (named_rises b) k l all (belts_in (rule_at b r)) (rule_low ok r (h.is_rule d))
-            ∙ sym (in_rule_lem (get_or ns k 0) (rule_at b r))
+            ap (λ (a : ℕ). in_mask a (Some k)) q
+            ∙ gathered_at (named_rises b) k l all (belts_in (rule_at b r.0)) (rule_low ok r.0 h.is_rule)
+            ∙ sym (in_rule_lem (get_or ns k 0) (rule_at b r.0))
 
-        more : (k : ℕ) → k < length ns → get_or ys k 0 + in_rules b k (rules_from b (next_rule b r)) ≡ in_rules b k (plan_of b).rules
+        more : (k : ℕ) → k < length ns → get_or ys k 0 + in_rules b k (rules_from b (next_rule b r.0)) ≡ in_rules b k (plan_of b).rules
         more k l =
             let x = get_or xs k 0 in
-            let t = in_rule (get_or ns k 0) (rule_at b r) in
-            let rest = in_rules b k (rules_from b (next_rule b r)) in
+            let t = in_rule (get_or ns k 0) (rule_at b r.0) in
+            let rest = in_rules b k (rules_from b (next_rule b r.0)) in
             let now : get_or ys k 0 ≡ count_by t x =
             ap (λ (zs : List ℕ). get_or zs k 0) w
             ∙ seen_at (on m) xs max_named (length ns) k (omega (arith, named_few ok))
             ∙ seen_new (on m) xs (length ns) k l t (has k l) in
             ap (λ (i : ℕ). i + rest) now
             ∙ counted_sum t x rest
-            ∙ sym (ap (λ (rules : List (List Literal)). x + in_rules b k rules) (rules_next ok r (h.is_rule d)))
+            ∙ sym (ap (λ (rules : List (List Literal)). x + in_rules b k rules) (rules_next ok r.0 h.is_rule))
             ∙ h.whole k l

@@ -1,13 +1,13 @@
 -- The picks: the code tells belts by their places among the named belts, and picks as the definition does.
 --
---   lowest_here, lowest_over
---                     the first place that is kept and passes, by the trailing zeros of a mask of such places
+--   lowest_at         the first place that is kept and passes, by the trailing zeros of a mask of such places
 --   free_bits         the mask of the places that are unfixed and in a mask
 --   find_all          where every place passes, the first of all
---   Tops xs o t j n   Invariant: the loop's variables stand for o, the busiest place so far, if any: t says whether there is one, j is the place, and
---                     n its count in xs
---   tops_taken, tops_kept, tops_found, tops_none
---                     it holds after one more place, which becomes the best or does not; and what it says at the end
+--   busiest_from xs m k n
+--                     the busiest, by the counts xs, of the places from k on, of n, that the mask m does not have
+--   busiest_none, busiest_fixed, busiest_kept, busiest_taken, busiest_all
+--                     there is none past the last place; after one more place it is the same, since the place is fixed or has a lower count, or it is
+--                     that place; from the first place on it is the busiest of all
 --   else_at, else_none
 --                     a place that was looked for, or else another
 --   picks_lowest, picks_busiest, picks_on
@@ -19,7 +19,7 @@
 -- is chosen among the others at the same position: Matched says of two choices that they are none and none, or a belt and its place.
 -- Assumes nothing.
 use mathlib.Core.Path.{◌≡◌, refl, sym, ◌∙◌, ap, subst}
-use mathlib.Core.Bool.{Bool, true, false, not, ◌&&◌, ◌||◌, and-true, true≢false}
+use mathlib.Core.Bool.{Bool, true, false, not, ◌&&◌, ◌||◌, and-true}
 use mathlib.Core.Option.{Option, none, some}
 use Prim.Native.Nat.{ℕ, zero, suc, ◌+◌, ◌-◌, ◌≤◌, ◌<◌}
 use mathlib.Core.List.{List, [], ◌∷◌, map, head?, Memᴰ}
@@ -29,8 +29,10 @@ use lib.Bits.{bit_or, bit_xor}
 use lib.Count.{count_trailing_zeros}
 use lib.ListN.{length, get_or}
 use lib.Dec.{ltb}
-use borrow.Author.Tests.{lt-ltb, le-ltb}
-use Rattle.plan.specs.declared.named.Place.TheVariants.{At, Unnamed}
+use borrow.Author.Tests.{lt-ltb, le-ltb, ltb-true, ltb-false}
+use Rattle.std.specs.Prelude as code
+use Rattle.std.specs.Bool.{then_some}
+use Rattle.std.specs.Prelude.{Some, None}
 use Rattle.plan.specs.Lists.{keep, mem, iota, upto}
 use Rattle.plan.specs.Plan.{Plan, plan_of, named}
 use Rattle.plan.specs.Reading.{Accepted}
@@ -74,22 +76,29 @@ module _ (f g : ℕ → Bool) (n : ℕ) where
   all_over zero l h = refl
   all_over (suc k) l h = all_over k (omega arith) (λ j m. h j (omega arith)) ∙ passed_over k (omega arith) (h k (omega arith))
 
-  module _ (w x : ℕ) (few : n ≤ w) (bits : (k : ℕ) → in_mask x (At k) ≡ (g k && f k)) where
-    pub lowest_here : count_trailing_zeros w x < n → found_from 0 ≡ some (count_trailing_zeros w x)
+  module _ (w x : ℕ) (few : n ≤ w) (bits : (k : ℕ) → in_mask x (Some k) ≡ (g k && f k)) where
+    lowest_here : count_trailing_zeros w x < n → found_from 0 ≡ some (count_trailing_zeros w x)
     lowest_here l =
         let k = count_trailing_zeros w x in
         let (passes-k, kept-k) = both (g k) (f k) (sym (bits k) ∙ lowest_set w x (omega arith)) in
         all_over k (omega arith) (λ j m. sym (bits j) ∙ lowest_none w x j m) ∙ at_kept k l kept-k true passes-k
 
-    pub lowest_over : n ≤ count_trailing_zeros w x → found_from 0 ≡ none
+    lowest_over : n ≤ count_trailing_zeros w x → found_from 0 ≡ none
     lowest_over l =
         all_over n (omega arith) (λ j m. sym (bits j) ∙ lowest_none w x j (omega arith)) ∙ ap (find g) (keep_done f n n (omega arith))
 
+    pub lowest_at : then_some (ltb (count_trailing_zeros w x) n) (count_trailing_zeros w x) ≡ at_place (found_from 0)
+    lowest_at = go (ltb (count_trailing_zeros w x) n) refl
+      where
+        go : (t : Bool) → ltb (count_trailing_zeros w x) n ≡ t → then_some t (count_trailing_zeros w x) ≡ at_place (found_from 0)
+        go true e = sym (ap at_place (lowest_here (ltb-true (count_trailing_zeros w x) n e)))
+        go false e = sym (ap at_place (lowest_over (ltb-false (count_trailing_zeros w x) n e)))
+
 pub free_bits : (f : Fixings) (m k : ℕ) → let fixed = bit_or f.required f.forbidden in
-    in_mask (bit_xor (bit_or m fixed) fixed) (At k) ≡ (in_mask m (At k) && unfixed_at f k)
+    in_mask (bit_xor (bit_or m fixed) fixed) (Some k) ≡ (in_mask m (Some k) && unfixed_at f k)
 free_bits f m k =
     without_set m (bit_or f.required f.forbidden) k
-    ∙ ap (λ (t : Bool). in_mask m (At k) && not t) (or_set f.required f.forbidden k)
+    ∙ ap (λ (t : Bool). in_mask m (Some k) && not t) (or_set f.required f.forbidden k)
 
 pub find_all : (g : ℕ → Bool) (ks : List ℕ) → ((k : ℕ) → Memᴰ k ks → g k ≡ true) → find g ks ≡ head? ks
 find_all g [] h = refl
@@ -97,38 +106,56 @@ find_all g (k ∷ ks) h = ap (λ (t : Bool). or_else t k (find g ks)) (h k (Mem�
 
 -- ---- the busiest, place by place
 
-abbrev pub Tops : List ℕ → Option ℕ → Bool → ℕ → ℕ → Type 0
-Tops xs none t j n = (t ≡ false) × (n ≡ 0)
-Tops xs (some k) t j n = (t ≡ true) × (j ≡ k) × (n ≡ count_at xs k)
+-- the busiest of the places from k on, of n, that the mask m does not have
+abbrev pub busiest_from : List ℕ → ℕ → ℕ → ℕ → Option ℕ
+busiest_from xs m k n = highest (count_at xs) (keep (λ (j : ℕ). not (in_mask m (Some j))) (upto k n))
 
-module _ (xs : List ℕ) where
-  pub tops_taken : (o : Option ℕ) (t : Bool) (j n k : ℕ) → Tops xs o t j n → n ≤ count_at xs k → Tops xs (higher (count_at xs) k o) true k (count_at xs k)
-  tops_taken none t j n k h l = (refl, refl, refl)
-  tops_taken (some i) t j n k h l =
-      subst (λ (s : Bool). Tops xs (elim s [ true ↦ some i | false ↦ some k ]) true k (count_at xs k))
-      (sym (le-ltb (count_at xs k) (count_at xs i) (omega (arith, h.2)))) (refl, refl, refl)
+module _ (xs : List ℕ) (m n : ℕ) where
+  pub busiest_none : None ≡ at_place (busiest_from xs m n n)
+  busiest_none = sym (ap (λ (ks : List ℕ). at_place (highest (count_at xs) ks)) (keep_done (λ (j : ℕ). not (in_mask m (Some j))) n n (omega arith)))
 
-  pub tops_kept : (o : Option ℕ) (t : Bool) (j n k : ℕ) → Tops xs o t j n → count_at xs k < n → Tops xs (higher (count_at xs) k o) t j n
-  tops_kept none t j n k h l = absurd (omega (arith, h.1))
-  tops_kept (some i) t j n k h l =
-      subst (λ (s : Bool). Tops xs (elim s [ true ↦ some i | false ↦ some k ]) t j n)
-      (sym (lt-ltb (count_at xs k) (count_at xs i) (omega (arith, h.2)))) h
+  -- the place k is the next below the place i
+  module _ (i k : ℕ) (e : k + 1 ≡ i) (l : k < n) where
+    pub busiest_fixed : in_mask m (Some k) ≡ true → busiest_from xs m i n ≡ busiest_from xs m k n
+    busiest_fixed h =
+        sym (ap (highest (count_at xs)) (keep_rest (λ (j : ℕ). not (in_mask m (Some j))) k n l (ap not h)) ∙ ap (λ (j : ℕ). busiest_from xs m j n) e)
 
-  pub tops_found : (o : Option ℕ) (t : Bool) (j n : ℕ) → Tops xs o t j n → t ≡ true → At j ≡ at_place o
-  tops_found none t j n h e = absurd (true≢false (sym e ∙ h.0))
-  tops_found (some k) t j n h e = ap (λ (i : ℕ). At i) h.1
+    busiest_first : in_mask m (Some k) ≡ false → busiest_from xs m k n ≡ higher (count_at xs) k (busiest_from xs m i n)
+    busiest_first h =
+        ap (highest (count_at xs)) (keep_first (λ (j : ℕ). not (in_mask m (Some j))) k n l (ap not h))
+        ∙ ap (λ (j : ℕ). higher (count_at xs) k (busiest_from xs m j n)) e
 
-  pub tops_none : (o : Option ℕ) (t : Bool) (j n : ℕ) → Tops xs o t j n → t ≡ false → Unnamed ≡ at_place o
-  tops_none none t j n h e = refl
-  tops_none (some k) t j n h e = absurd (true≢false (sym h.0 ∙ e))
+    module _ (free : in_mask m (Some k) ≡ false) (best : code.Option ℕ) (is : best ≡ at_place (busiest_from xs m i n)) where
+      pub busiest_kept : (j : ℕ) → best ≡ Some j → count_at xs k < count_at xs j → best ≡ at_place (busiest_from xs m k n)
+      busiest_kept j found less = subst (λ (o : Option ℕ). best ≡ at_place o) (sym (busiest_first free)) (go (busiest_from xs m i n) is)
+        where
+          go : (o : Option ℕ) → best ≡ at_place o → best ≡ at_place (higher (count_at xs) k o)
+          go none q = let z : None ≡ Some j = sym q ∙ found in cc
+          go (some h) q =
+              let same : Some h ≡ Some j = sym q ∙ found in
+              let at : h ≡ j = cc in
+              subst (λ (t : Bool). best ≡ at_place (elim t [ true ↦ some h | false ↦ some k ]))
+              (sym (lt-ltb (count_at xs k) (count_at xs h) (subst (λ (g : ℕ). count_at xs k < count_at xs g) (sym at) less))) q
+
+      pub busiest_taken : ((j : ℕ) → best ≡ Some j → count_at xs j ≤ count_at xs k) → Some k ≡ at_place (busiest_from xs m k n)
+      busiest_taken more = subst (λ (o : Option ℕ). Some k ≡ at_place o) (sym (busiest_first free)) (go (busiest_from xs m i n) is)
+        where
+          go : (o : Option ℕ) → best ≡ at_place o → Some k ≡ at_place (higher (count_at xs) k o)
+          go none q = refl
+          go (some h) q =
+              subst (λ (t : Bool). Some k ≡ at_place (elim t [ true ↦ some h | false ↦ some k ]))
+              (sym (le-ltb (count_at xs k) (count_at xs h) (more h q))) refl
+
+  pub busiest_all : (f : Fixings) → m ≡ bit_or f.required f.forbidden → busiest_from xs m 0 n ≡ highest (count_at xs) (unfixed_places f n)
+  busiest_all f e i = highest (count_at xs) (keep (λ (j : ℕ). not ((ap (λ (h : ℕ). in_mask h (Some j)) e ∙ or_set f.required f.forbidden j) i)) (upto 0 n))
 
 -- ---- a place that was looked for, or else another
 
-pub else_at : (o q : Option ℕ) (k : ℕ) → at_place o ≡ At k → At k ≡ at_place (otherwise o q)
+pub else_at : (o q : Option ℕ) (k : ℕ) → at_place o ≡ Some k → Some k ≡ at_place (otherwise o q)
 else_at none q k h = let z : ◌≡◌ {A = ℕ} 0 1 = cc in absurd (omega arith)
 else_at (some j) q k h = sym h
 
-pub else_none : (o q : Option ℕ) → at_place o ≡ Unnamed → at_place q ≡ at_place (otherwise o q)
+pub else_none : (o q : Option ℕ) → at_place o ≡ None → at_place q ≡ at_place (otherwise o q)
 else_none none q h = refl
 else_none (some j) q h = let z : ◌≡◌ {A = ℕ} 0 1 = cc in absurd (omega arith)
 
@@ -206,7 +233,7 @@ module _ (ns : List ℕ) where
   free_inside : (f : Fixings) → Inside ns (unfixed_places f (length ns))
   free_inside f k m = all_inside k (keep_in (unfixed_at f) (upto 0 (length ns)) m).0
 
-  fixed_at : Rises ns → (m k : ℕ) → k < length ns → mem (belt ns k) (fixed_in ns m) ≡ in_mask m (At k)
+  fixed_at : Rises ns → (m k : ℕ) → k < length ns → mem (belt ns k) (fixed_in ns m) ≡ in_mask m (Some k)
   fixed_at rises m k l = fixed_mem ns m (belt ns k) ∙ ap (in_mask m) (stands rises k l).1
 
 module _ (b : List ℕ) (f : Fixings) where
@@ -255,7 +282,7 @@ module _ (b : List ℕ) (f : Fixings) where
         matched_lowest)
 
   -- the mask m has the belt at a place where it has the place
-  pub mask_at : (m j : ℕ) → j < length ns → has_belt b m (get_or ns j 0) ≡ in_mask m (At j)
+  pub mask_at : (m j : ℕ) → j < length ns → has_belt b m (get_or ns j 0) ≡ in_mask m (Some j)
   mask_at m j l = ap (in_mask m) (stands rises j l).1
 
 -- ---- tests that agree on the named belts pick the same

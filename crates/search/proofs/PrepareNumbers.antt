@@ -15,8 +15,9 @@ use mathlib.Core.Path.{◌≡◌, refl, sym, ◌∙◌, ap, subst}
 use Prim.Native.Nat.{ℕ, ◌+◌, ◌-◌, ◌≤◌, ◌<◌}
 use mathlib.Core.List.{List, [], ◌∷◌, ◌++◌, append-nil, append_assoc}
 use native.Mathlib.Omega.{arith}
-use lib.ListN.{length, get_or, drop, set, replicate, length-append, length-replicate, get_or-append}
-use lib.Seq.{sets, sets-eq, set_at, take_at, drop-append-add, get_or-append-add}
+use lib.ListN.{length, get_or, drop, set, replicate, length-append, get_or-append}
+use borrow.Rule.Slice.PartMut.{put_mid}
+use lib.Seq.{set_at, take_at, drop_at, get_or-append-add}
 use Rattle.plan.specs.Bounds.{max_named}
 use Rattle.plan.specs.Plan.{plan_of, named}
 use Rattle.plan.specs.Reading.{Accepted, Bytes}
@@ -44,23 +45,18 @@ module _ {b : List ℕ} (ok : Accepted b) where
   rows_size = length_rows ok rows [] (sym (append-nil rows))
 
   -- the counts, stored over zeros
-  counts_stored : sets (padded numbers_end rows) counts_from counts ≡ rows ++ counts ++ (0 ∷ [])
+  counts_stored : put_mid counts_from max_named (padded numbers_end rows) counts ≡ rows ++ counts ++ (0 ∷ [])
   counts_stored =
       let zeros : List ℕ = replicate (numbers_end - length rows) 0 in
-      let size = length-append rows zeros in
-      let many = length-replicate {A = ℕ} (numbers_end - length rows) 0 in
       let first = rows_size in
-      let some = length_counts ok in
-      let at : counts_from + length counts ≡ length rows + max_named = omega arith in
       let one : numbers_end - length rows - max_named ≡ 1 = omega arith in
-      let rest : drop (counts_from + length counts) (rows ++ zeros) ≡ 0 ∷ [] =
-      ap (λ (k : ℕ). drop k (rows ++ zeros)) at
-      ∙ drop-append-add rows zeros max_named
+      let rest : drop max_named (drop counts_from (rows ++ zeros)) ≡ 0 ∷ [] =
+      ap (drop max_named) (drop_at rows zeros counts_from rows_size)
       ∙ drop_replicate max_named (numbers_end - length rows) 0
       ∙ ap (λ (k : ℕ). replicate k 0) one in
-      sets-eq counts (rows ++ zeros) counts_from (omega arith) ∙ (λ i. take_at rows zeros counts_from rows_size i ++ counts ++ rest i)
+      (λ i. take_at rows zeros counts_from rows_size i ++ (counts ++ rest i)) ∙ sym (append_assoc rows counts (0 ∷ []))
 
-  pub numbers_made : set (sets (padded numbers_end rows) counts_from counts) modes_from (plan_of b).modes ≡ numbers_of (plan_of b)
+  pub numbers_made : set (put_mid counts_from max_named (padded numbers_end rows) counts) modes_from (plan_of b).modes ≡ numbers_of (plan_of b)
   unfolding numbers_of
   numbers_made =
       let first = rows_size in

@@ -2,10 +2,10 @@
 --
 --   bound_low         the bound is at most `unbounded`, as the cost of a Route of the plan is
 --   Held b k o v      there is a relaxed route o, it costs at most k, and the summary v is of it
---   Tells b o t r k v what the summary v, asked for with the bound k, tells of the relaxed route o and the best r, where t says whether one is held:
---                     if it costs as much as the bound, there is a relaxed route and a best, and `lower` decides (equal, tied); if not, that
---                     route improves on the best where the summary costs at most the bound (unequal); and one that does is the summary's (better)
---   tells             this holds of the summary that relaxed_route answers
+--   Tells b o t r k a what the answer a, asked for with the bound k, tells of the relaxed route o and the best r, where t says whether one is held:
+--                     a summary is of the relaxed route (held), which improves on the best where it costs less than the bound (less), and where it
+--                     costs as much `lower` decides (tied); without a summary it does not improve (lost)
+--   tells             this holds of what relaxed_route answers
 --   walked_in_size    a step leaves the length of `kept` as it was
 --   held_few, held_back
 --                     where there is such a relaxed route it has at most max_steps belts, and is read back whole from the array that its belts were stored in
@@ -18,19 +18,21 @@ use mathlib.Core.Option.{Option, none, some}
 use Prim.Native.Nat.{ℕ, ◌≤◌, ◌<◌}
 use mathlib.Core.List.{List}
 use native.Mathlib.Omega.{arith}
-use lib.ListN.{length, length-map}
+use lib.ListN.{length}
 use lib.Dec.{eqb, leb}
 use borrow.Author.Tests.{leb-true, leb-false, le-leb, lt-leb, lt-ltb, le-ltb}
+use Rattle.std.specs.Prelude.{Some, None}
+use Rattle.std.specs.declared.option.Option as answer
 use Rattle.plan.specs.Bounds.{max_steps}
 use Rattle.plan.specs.Plan.{Belt, plan_of}
 use Rattle.plan.specs.Reading.{Accepted, Bytes}
 use Rattle.plan.proofs.Lists.{test}
-use Rattle.route.specs.declared.path.Route.{Route}
+use Rattle.route.specs.declared.belts.Route.{Route}
 use Rattle.route.specs.declared.path.Trip.{Trip}
 use Rattle.route.specs.declared.relax.Fixings.{Fixings}
 use Rattle.route.specs.declared.relax.Summary.{Summary}
 use Rattle.route.specs.Routes.{wrong_ends, cost, lower}
-use Rattle.route.specs.Values.{Known, route_in, first_belts, subproblem_in, at_most, unbounded, summary_as, walked_of}
+use Rattle.route.specs.Values.{Known, route_in, first_belts, subproblem_in, at_most, unbounded, summary_of, summary_as, walked_of}
 use Rattle.route.specs.Laws.{Holdable}
 use Rattle.route.specs.Inner.{way_cost}
 use Rattle.route.proofs.RouteIndices.{known_cheap, ends_junctions}
@@ -56,25 +58,27 @@ pub record Held (b : List ℕ) (k : ℕ) (o : Option (List Belt)) (v : Summary) 
   pub is : o ≡ some route
   pub low : cost route ≤ k
   pub within : at_most k o ≡ some route
-  pub summary : v ≡ summary_as b (some route)
+  pub summary : v ≡ summary_of b route
 
--- or it costs more than k, and so does the relaxed route, if there is one
-abbrev Summed : List ℕ → ℕ → Option (List Belt) → Summary → Type 0
-Summed b k o v = Held b k o v ⊎ ((k < v.cost) × ((r : List Belt) → o ≡ some r → k < cost r))
+-- a summary is of the relaxed route, and without one that route costs more than k, if there is one
+abbrev Summed : List ℕ → ℕ → Option (List Belt) → answer.Option Summary → Type 0
+Summed b k o (Some v) = Held b k o v
+Summed b k o None = (r : List Belt) → o ≡ some r → k < cost r
 
-summed : (b : List ℕ) (k : ℕ) (o : Option (List Belt)) (v : Summary) → k ≤ unbounded → v ≡ summary_as b (at_most k o) → Summed b k o v
-summed b k none v low e = inr (omega (arith, ap (λ (w : Summary). w.cost) e), λ r q. let z : ◌≡◌ {A = ℕ} 0 1 = cc in absurd (omega arith))
-summed b k (some r) v low e = go (test (leb (cost r) k))
+summed : (b : List ℕ) (k : ℕ) (o : Option (List Belt)) → Summed b k o (summary_as b (at_most k o))
+summed b k none = λ r q. let z : ◌≡◌ {A = ℕ} 0 1 = cc in absurd (omega arith)
+summed b k (some r) = go (test (leb (cost r) k))
   where
-    go : (leb (cost r) k ≡ true) ⊎ (leb (cost r) k ≡ false) → Summed b k (some r) v
+    go : (leb (cost r) k ≡ true) ⊎ (leb (cost r) k ≡ false) → Summed b k (some r) (summary_as b (at_most k (some r)))
     go (inl h) =
         let less = leb-true (cost r) k h in
         let same = at_most_some k (some r) less in
-        inl (record { route = r; is = refl; low = less; within = same; summary = e ∙ ap (summary_as b) same })
+        subst (λ (o : Option (List Belt)). Summed b k (some r) (summary_as b o)) (sym same)
+        (record { route = r; is = refl; low = less; within = same; summary = refl })
     go (inr h) =
         let more = leb-false (cost r) k h in
         let lost = at_most_none k (some r) more in
-        inr (omega (arith, ap (λ (w : Summary). w.cost) (e ∙ ap (summary_as b) lost)), λ q i. omega (arith, ap way_cost i, more))
+        subst (λ (o : Option (List Belt)). Summed b k (some r) (summary_as b o)) (sym lost) (λ q i. omega (arith, ap way_cost i, more))
 
 pub walked_in_size : (b : List ℕ) (q : Query) (v : Search) (room : List ℕ) → length (walked_in b q v room) ≡ length room
 walked_in_size b q v room = go (eqb v.count 0 || eqb v.opened q.budget)
@@ -106,13 +110,13 @@ improves_tied : (b : List ℕ) (r : List Belt) (t : Bool) (best : Route) → cos
 improves_tied b r false best low e = absurd (omega arith)
 improves_tied b r true best low e = first_eq (cost r) (cost (route_in b best)) (lower r (route_in b best)) e
 
-pub record Tells (b : List ℕ) (o : Option (List Belt)) (t : Bool) (best : Route) (k : ℕ) (v : Summary) : Type 0 where
-  pub equal : v.cost ≡ k → Held b k o v
-  pub tied : (h : Held b k o v) → v.cost ≡ k → better_in b o t best ≡ lower h.route (route_in b best)
-  pub unequal : (v.cost ≡ k → ⊥) → leb v.cost k ≡ better_in b o t best
-  pub better : better_in b o t best ≡ true → Held b k o v
+pub record Tells (b : List ℕ) (o : Option (List Belt)) (t : Bool) (best : Route) (k : ℕ) (a : answer.Option Summary) : Type 0 where
+  pub held : (v : Summary) → a ≡ Some v → Held b k o v
+  pub lost : a ≡ None → better_in b o t best ≡ false
+  pub less : (v : Summary) → Held b k o v → v.cost < k → better_in b o t best ≡ true
+  pub tied : (v : Summary) (h : Held b k o v) → k ≤ v.cost → better_in b o t best ≡ lower h.route (route_in b best)
 
-module _ (b : List ℕ) (o : Option (List Belt)) (t : Bool) (best : Route) (k : ℕ) (v : Summary) (bound : k ≡ bound_of (best_in b t best))
+module _ (b : List ℕ) (o : Option (List Belt)) (t : Bool) (best : Route) (k : ℕ) (bound : k ≡ bound_of (best_in b t best))
     (cheap : (r : List Belt) → o ≡ some r → cost r < unbounded) where
   -- a route that costs more than the bound
   dear : ((r : List Belt) → o ≡ some r → k < cost r) → better_in b o t best ≡ false
@@ -122,29 +126,19 @@ module _ (b : List ℕ) (o : Option (List Belt)) (t : Bool) (best : Route) (k : 
       go none q = refl
       go (some r) q = improves_more b r t best (cheap r q) (omega (arith, more r q, bound))
 
-  -- a route that costs as much as the bound
-  by_lower : (h : Held b k o v) → v.cost ≡ k → better_in b o t best ≡ lower h.route (route_in b best)
-  by_lower h e =
-      let price : v.cost ≡ cost h.route = ap (λ (w : Summary). w.cost) h.summary in
-      ap (λ (u : Option (List Belt)). better_in b u t best) h.is
-      ∙ improves_tied b h.route t best (cheap h.route h.is) (sym price ∙ e ∙ bound)
+  -- a route within the bound
+  of_held : {v : Summary} (h : Held b k o v) {w : Bool} → improves h.route (best_in b t best) ≡ w → better_in b o t best ≡ w
+  of_held h e = ap (λ (u : Option (List Belt)). better_in b u t best) h.is ∙ e
 
-  sum_tells : Summed b k o v → Tells b o t best k v
-  sum_tells (inl h) =
-      let price : v.cost ≡ cost h.route = ap (λ (w : Summary). w.cost) h.summary in
-      record {
-        equal = λ e. h;
-        tied = by_lower;
-        unequal = λ d. le-leb v.cost k (omega (arith, h.low))
-            ∙ sym (ap (λ (u : Option (List Belt)). better_in b u t best) h.is
-            ∙ improves_less b h.route t best (omega (arith, h.low, bound)) (λ e. d (price ∙ e ∙ sym bound)));
-        better = λ g. h;
-      }
-  sum_tells (inr (high, more)) = record {
-    equal = λ e. absurd (omega (arith, e, high));
-    tied = by_lower;
-    unequal = λ d. lt-leb v.cost k high ∙ sym (dear more);
-    better = λ h. absurd (true≢false (sym h ∙ dear more));
+  cost_is : {v : Summary} (h : Held b k o v) → v.cost ≡ cost h.route
+  cost_is h = ap (λ (w : Summary). w.cost) h.summary
+
+  sum_tells : (a : answer.Option Summary) → Summed b k o a → Tells b o t best k a
+  sum_tells a h = record {
+    held = λ v e. subst (Summed b k o) e h;
+    lost = λ e. dear (subst (Summed b k o) e h);
+    less = λ v g l. of_held g (improves_less b g.route t best (omega (arith, g.low, bound)) (λ e. omega (arith, l, cost_is g, e, bound)));
+    tied = λ v g l. of_held g (improves_tied b g.route t best (cheap g.route g.is) (omega (arith, l, g.low, cost_is g, bound)));
   }
 
 module _ {b : List ℕ} (ok : Accepted b) (bytes : Bytes b) (q : Trip) (ends : wrong_ends (plan_of b) q.s q.t ≡ false) (f : Fixings) where
@@ -154,15 +148,15 @@ module _ {b : List ℕ} (ok : Accepted b) (bytes : Bytes b) (q : Trip) (ends : w
       let inside = ends_junctions (plan_of b) q.s q.t ends in
       answer_law b ok bytes q.s q.t inside.0 inside.3 (subproblem_in b f) r e
 
-  pub tells : (t : Bool) (best : Route) → Known b best → (k : ℕ) → k ≡ bound_of (best_in b t best) → (v : Summary)
-      → v ≡ summary_as b (at_most k (relaxed_in b q f)) → Tells b (relaxed_in b q f) t best k v
-  tells t best known k bound v e =
-      let low : k ≤ unbounded = subst (λ (n : ℕ). n ≤ unbounded) (sym bound) (bound_low ok bytes t best known) in
-      sum_tells b (relaxed_in b q f) t best k v bound (λ r i. (claim r i).cheap) (summed b k (relaxed_in b q f) v low e)
+  pub tells : (t : Bool) (best : Route) → Known b best → (k : ℕ) → k ≡ bound_of (best_in b t best) → (a : answer.Option Summary)
+      → a ≡ summary_as b (at_most k (relaxed_in b q f)) → Tells b (relaxed_in b q f) t best k a
+  tells t best known k bound a e =
+      sum_tells b (relaxed_in b q f) t best k bound (λ r i. (claim r i).cheap) a
+      (subst (Summed b k (relaxed_in b q f)) (sym e) (summed b k (relaxed_in b q f)))
 
   module _ {k : ℕ} {v : Summary} (h : Held b k (relaxed_in b q f) v) where
     pub held_few : v.count ≤ max_steps
-    held_few = omega (arith, ap (λ (w : Summary). w.count) h.summary, (claim h.route h.is).known.few, length-map h.route (λ (e : Belt). e.index))
+    held_few = omega (arith, ap (λ (w : Summary). w.count) h.summary, (claim h.route h.is).few)
 
     pub held_back : (room : List ℕ) → length room ≡ max_steps → first_belts v.count (walked_of (at_most k (relaxed_in b q f)) room) ≡ held_as (relaxed_in b q f)
     held_back room size =

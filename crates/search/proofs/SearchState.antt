@@ -29,8 +29,8 @@ use lib.ListN.{length, get_or, set, length-set, length-map, replicate}
 use lib.Seq.{get_or-set_same, get_or-set_other}
 use lib.Dec.{eqb, ltb, eqb-suc-zero}
 use borrow.Author.Tests.{eqb-true, eqb-false, ne_eqb}
-use Rattle.plan.specs.declared.named.Place.{Place}
-use Rattle.plan.specs.declared.named.Place.TheVariants.{At}
+use Rattle.plan.specs.Plan.{Place}
+use Rattle.std.specs.Prelude.{Some}
 use Rattle.plan.specs.Lists.{count, mem}
 use Rattle.plan.specs.Plan.{plan_of, named, place_of}
 use Rattle.plan.specs.Reading.{Accepted}
@@ -38,7 +38,7 @@ use Rattle.plan.proofs.Lists.{test, keep_in, keep_none, keep_cong}
 use Rattle.plan.proofs.NamedBelts.{named_rises}
 use Rattle.plan.proofs.NamedPlaces.{at_place, place_in_lem}
 use Rattle.plan.proofs.Reading.{named_few}
-use Rattle.route.specs.declared.path.Route.{Route}
+use Rattle.route.specs.declared.belts.Route.{Route}
 use Rattle.route.specs.declared.relax.Fixings.{Fixings}
 use Rattle.route.specs.Permission.{passes, terms_of}
 use Rattle.route.specs.Subproblems.{Subproblem}
@@ -153,7 +153,7 @@ held v r c = record { waiting = v.waiting; count = v.count; opened = v.opened; b
 abbrev pub settled_to : Fixings → ℕ → Route → ℕ → Search → Judged → Search
 settled_to f o r c v Drop = v
 settled_to f o r c v Best = held v r c
-settled_to f o r c v (Branch k) = with_both (child_at f (At k) (eqb o 0)) (child_at f (At k) (not (eqb o 0))) v
+settled_to f o r c v (Branch k) = with_both (child_at f (Some k) (eqb o 0)) (child_at f (Some k) (not (eqb o 0))) v
 
 abbrev pub Room : Search → Judged → Type 0
 Room v Drop = Unit {0}
@@ -216,9 +216,9 @@ module _ (b : List ℕ) (v : Search) (size : length v.waiting ≡ max_waiting) (
 
 -- ---- steps 3 to 6
 
-branch_grown : (f : Fixings) (k o : ℕ) (r : Route) (c : ℕ) (v : Search) → settled_to f o r c v (Branch k) ≡ grown (child_at f (At k) true) (child_at f (At k) false) o v
+branch_grown : (f : Fixings) (k o : ℕ) (r : Route) (c : ℕ) (v : Search) → settled_to f o r c v (Branch k) ≡ grown (child_at f (Some k) true) (child_at f (Some k) false) o v
 branch_grown f k zero r c v = refl
-branch_grown f k (suc o) r c v = ap (λ (t : Bool). with_both (child_at f (At k) t) (child_at f (At k) (not t)) v) (eqb-suc-zero o)
+branch_grown f k (suc o) r c v = ap (λ (t : Bool). with_both (child_at f (Some k) t) (child_at f (Some k) (not t)) v) (eqb-suc-zero o)
 
 some_long : {A : Type 0} {a : A} (xs : List A) → Memᴰ a xs → 1 ≤ length xs
 some_long [] m = absurd (Memᴰ.not-nil m)
@@ -386,7 +386,7 @@ first_valid b =
       forbidden = λ i. (masked i).1;
       deep = subst (λ (st : State). Deep (plan_of b) st.waiting) (sym (first_state b)) (deep_begun (plan_of b));
       spare = λ i h. all_none max_waiting i;
-      known = record { few = omega arith; belts = λ e m. absurd (Memᴰ.not-nil m) };
+      known = record { belts = λ e m. absurd (Memᴰ.not-nil m) };
       rest_zero = refl;
       unheld = λ h. refl;
       bound_is = refl;

@@ -11,9 +11,9 @@
 -- A run:
 --   Running b q v         Invariant: running on from the Search v gives the result of the whole run
 --   running_first         it holds at the beginning
---   Handed b q w e        the same of what a step handed back, w with the ending e: where the search goes on, of its Search; where it has ended,
+--   Handed b q w o        the same of what a step handed back, w with the ending o: where the search goes on, of its Search; where it has ended,
 --                         w is the result of the whole run
---   left q w e            the measure: how many steps are left, at most
+--   left q w o            the measure: how many steps are left, at most
 --   handed, fewer         it holds after one more step, and the measure falls
 --
 -- Each goes by what was tested, clause by clause of the definition. Assumes nothing.
@@ -23,12 +23,14 @@ use mathlib.Core.Option.{Option, none, some, none-ne-some}
 use Prim.Native.Nat.{ℕ, suc, ◌+◌, ◌-◌, ◌≤◌, ◌<◌}
 use mathlib.Core.List.{List, Memᴰ}
 use native.Mathlib.Omega.{arith}
+use Rattle.std.specs.Prelude as code
+use Rattle.std.specs.Prelude.{Some, None}
 use lib.ListN.{length}
 use lib.Dec.{eqb}
 use borrow.Author.Tests.{eq-eqb, ne_eqb}
 use Rattle.plan.specs.Plan.{Belt, plan_of, indices_of, named}
 use Rattle.plan.specs.Reading.{Accepted, Bytes}
-use Rattle.route.specs.declared.path.Route.{Route}
+use Rattle.route.specs.declared.belts.Route.{Route}
 use Rattle.route.specs.declared.relax.Fixings.{Fixings}
 use Rattle.route.specs.Routes.{wrong_ends, cost}
 use Rattle.route.specs.Permission.{passes, terms_of, lowest}
@@ -40,8 +42,8 @@ use Rattle.route.proofs.RulesNamed.{mask_belt, lowest_mask}
 use Rattle.search.specs.declared.query.Query.{Query}
 use Rattle.search.specs.declared.state.Search.{Search}
 use Rattle.search.specs.declared.state.Stepped.{Stepped}
-use Rattle.search.specs.declared.state.Ending as code
-use Rattle.search.specs.declared.state.Ending.TheVariants.{GoesOn, Found, Nothing, Spent}
+use Rattle.search.specs.declared.state.Ending as ended
+use Rattle.search.specs.declared.state.Ending.TheVariants.{Found, Nothing, Spent}
 use Rattle.search.specs.Search.{State, Ending, found_route, found_none, budget_spent, Turn, improves, considered, at_end, budgeted, step_of, step, runs, run}
 use Rattle.search.specs.Answers.{problem_in}
 use Rattle.search.specs.Values.{picked_place, first_search, waiting_in, is_held, best_in, state_in, ending_in, turn_in, Valid, newest_of, relaxed_in, max_waiting}
@@ -97,16 +99,16 @@ module _ {b : List ℕ} (ok : Accepted b) (bytes : Bytes b) (v : Search) (size :
 
 module _ (b : List ℕ) (q : Query) (budget : ℕ) (v : Search) where
   -- what a step that ends hands back
-  abbrev ends_with : code.Ending → Turn
+  abbrev ends_with : code.Option ended.Ending → Turn
   ends_with e = record { state = state_in b v; ending = ending_in e }
 
   -- nothing waits: it goes by whether a best is held
-  pub step_empty : v.count ≡ 0 → ends_with (ended_as (is_held v.bound)) ≡ step (problem_in b q) budget (state_in b v)
+  pub step_empty : v.count ≡ 0 → ends_with (Some (ended_as (is_held v.bound))) ≡ step (problem_in b q) budget (state_in b v)
   step_empty n =
       ap (λ (o : Option Ending). record { state = state_in b v; ending = o }) (held (is_held v.bound))
       ∙ sym (ap (step_of (problem_in b q) budget (state_in b v)) (ap (waiting_in b v.waiting) n))
     where
-      held : (t : Bool) → ending_in (ended_as t) ≡ some (at_end (best_in b t v.best))
+      held : (t : Bool) → ending_in (Some (ended_as t)) ≡ some (at_end (best_in b t v.best))
       held true = refl
       held false = refl
 
@@ -122,7 +124,7 @@ module _ (b : List ℕ) (q : Query) (budget : ℕ) (v : Search) where
         sym (ap (step_of (problem_in b q) budget (state_in b v)) (newest_waits b v waits)
         ∙ ap (budgeted (problem_in b q) (state_in b v) taken (state_in b (popped v)).waiting) e)
 
-    pub step_spent : v.opened ≡ budget → ends_with Spent ≡ step (problem_in b q) budget (state_in b v)
+    pub step_spent : v.opened ≡ budget → ends_with (Some Spent) ≡ step (problem_in b q) budget (state_in b v)
     step_spent e = by_budget true (eq-eqb v.opened budget e)
 
     -- what the taken one leads to, where n are opened
@@ -133,7 +135,7 @@ module _ (b : List ℕ) (q : Query) (budget : ℕ) (v : Search) where
 
     pub step_goes : (v.opened ≡ budget → ⊥) → (w : Search)
         → state_in b w ≡ considered (problem_in b q) taken (state_in b (popped v)) (relaxed (plan_of b) q.trip.s q.trip.t taken)
-        → turn_in b (record { search = w; ending = GoesOn }) ≡ step (problem_in b q) budget (state_in b v)
+        → turn_in b (record { search = w; ending = None }) ≡ step (problem_in b q) budget (state_in b v)
     step_goes d w e =
         let one : v.opened + 1 ≡ suc v.opened = omega arith in
         ap (λ (st : State). record { state = st; ending = none }) (e ∙ ap opened_to one)
@@ -146,17 +148,13 @@ pub record Running (b : List ℕ) (q : Query) (v : Search) : Type 0 where
   pub within : v.opened ≤ q.budget
   pub left : runs (problem_in b q) q.budget (suc (q.budget - v.opened)) (state_in b v) ≡ run (problem_in b q) q.budget
 
-abbrev pub Handed : List ℕ → Query → Stepped → code.Ending → Type 0
-Handed b q w GoesOn = Running b q w.search
-Handed b q w Found = (turn_in b w ≡ run (problem_in b q) q.budget) × Valid b w.search
-Handed b q w Nothing = (turn_in b w ≡ run (problem_in b q) q.budget) × Valid b w.search
-Handed b q w Spent = (turn_in b w ≡ run (problem_in b q) q.budget) × Valid b w.search
+abbrev pub Handed : List ℕ → Query → Stepped → code.Option ended.Ending → Type 0
+Handed b q w None = Running b q w.search
+Handed b q w (Some e) = (turn_in b w ≡ run (problem_in b q) q.budget) × Valid b w.search
 
-abbrev pub left : Query → Stepped → code.Ending → ℕ
-left q w GoesOn = suc (q.budget - w.search.opened)
-left q w Found = 0
-left q w Nothing = 0
-left q w Spent = 0
+abbrev pub left : Query → Stepped → code.Option ended.Ending → ℕ
+left q w None = suc (q.budget - w.search.opened)
+left q w (Some e) = 0
 
 module _ (b : List ℕ) (q : Query) where
   pub running_first : (v : Search) → v ≡ first_search → Running b q v
@@ -170,7 +168,7 @@ module _ (b : List ℕ) (q : Query) where
 
   -- a step from v
   module _ {v : Search} (now : Running b q v) (w : Stepped) (h : turn_in b w ≡ step (problem_in b q) q.budget (state_in b v)) where
-    running_goes : Valid b w.search → w.ending ≡ GoesOn → Running b q w.search × (q.budget - w.search.opened < q.budget - v.opened)
+    running_goes : Valid b w.search → w.ending ≡ None → Running b q w.search × (q.budget - w.search.opened < q.budget - v.opened)
     running_goes valid e =
         let state : state_in b w.search ≡ (step (problem_in b q) q.budget (state_in b v)).state = ap (λ (t : Turn). t.state) h in
         let goes = run_goes (problem_in b q) q.budget (state_in b v) now.within (sym (ap (λ (t : Turn). t.ending) h) ∙ ap ending_in e) in
@@ -192,17 +190,15 @@ module _ (b : List ℕ) (q : Query) where
         over : (e : Ending) → ending_in w.ending ≡ some e → turn_in b w ≡ run (problem_in b q) q.budget
         over e k = running_ends (λ l. none-ne-some e (sym l ∙ k))
 
-        go : (e : code.Ending) → w.ending ≡ e → Handed b q w e
-        go GoesOn k = (running_goes valid k).0
-        go Found k = (over found_route (ap ending_in k), valid)
-        go Nothing k = (over found_none (ap ending_in k), valid)
-        go Spent k = (over budget_spent (ap ending_in k), valid)
+        go : (o : code.Option ended.Ending) → w.ending ≡ o → Handed b q w o
+        go None k = (running_goes valid k).0
+        go (Some Found) k = (over found_route (ap ending_in k), valid)
+        go (Some Nothing) k = (over found_none (ap ending_in k), valid)
+        go (Some Spent) k = (over budget_spent (ap ending_in k), valid)
 
     pub fewer : Valid b w.search → left q w w.ending < suc (q.budget - v.opened)
     fewer valid = go w.ending refl
       where
-        go : (e : code.Ending) → w.ending ≡ e → left q w e < suc (q.budget - v.opened)
-        go GoesOn k = omega (arith, (running_goes valid k).1)
-        go Found k = omega arith
-        go Nothing k = omega arith
-        go Spent k = omega arith
+        go : (o : code.Option ended.Ending) → w.ending ≡ o → left q w o < suc (q.budget - v.opened)
+        go None k = omega (arith, (running_goes valid k).1)
+        go (Some e) k = omega arith

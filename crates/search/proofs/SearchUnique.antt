@@ -20,7 +20,7 @@ use Rattle.plan.specs.Plan.{Belt, plan_of, indices_of, named}
 use Rattle.plan.specs.Reading.{Accepted}
 use Rattle.plan.proofs.Lists.{test}
 use Rattle.plan.proofs.NamedBelts.{named_rises}
-use Rattle.route.specs.declared.path.Route.{Route}
+use Rattle.route.specs.declared.belts.Route.{Route}
 use Rattle.route.specs.declared.relax.Fixings.{Fixings}
 use Rattle.route.specs.Subproblems.{Subproblem}
 use Rattle.route.specs.Values.{ids_of, packed, Known, route_in, fixed_in, OfNamed, subproblem_in}

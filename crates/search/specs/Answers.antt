@@ -23,10 +23,11 @@
 --                       the numbers v and the buffer, before and after, are those of the outcome o
 --
 -- `Query`, `Answer` and `Reply` are declared by the code (src/query.rt, src/entry.rt). Assumes nothing.
-use Rattle.std.specs.Prelude.{◌≡◌, ℕ, zero, suc, Bool, not, ◌&&◌, List, [], ◌∷◌, ◌++◌, map, length, drop, leb, ltb}
+use Rattle.std.specs.Prelude.{◌≡◌, ℕ, zero, suc, Bool, not, ◌&&◌, List, [], ◌∷◌, ◌++◌, map, length, drop, leb, ltb, Result, Ok, Err}
 use Rattle.std.proofs.Math.Option.{Option, none, some}
 use Rattle.plan.specs.Bounds.{max_sheet_bytes}
 use Rattle.plan.specs.Plan.{Belt, plan_of, indices_of}
+use Rattle.plan.specs.declared.refusal.Refusal.{Refusal}
 use Rattle.plan.specs.Refusals.{Line, about, first_broken, refusal_number}
 use Rattle.route.specs.Routes.{cost}
 use Rattle.route.specs.Permission.{Terms, terms_of}
@@ -34,7 +35,7 @@ use Rattle.route.specs.Sheets.{sheet_of}
 use Rattle.route.specs.Refusals.{PlanTrip, trip_lines}
 use Rattle.search.specs.declared.query.Query.{Query}
 use Rattle.search.specs.declared.entry.Answer.{Answer}
-use Rattle.search.specs.declared.entry.Answer.TheVariants.{Found, Nothing, Spent, Paused, Refused}
+use Rattle.search.specs.declared.entry.Answer.TheVariants.{Found, Nothing, Spent, Paused}
 use Rattle.search.specs.declared.entry.Reply.{Reply}
 use Rattle.search.specs.Search.{Problem, State, Ending, found_route, found_none, budget_spent, Turn, setting_of, run, problem_of}
 
@@ -135,12 +136,12 @@ reply_to (nothing n) = reply 100 n 0
 reply_to (spent n) = reply 101 n 0
 reply_to (paused n) = reply 102 n 0
 
-abbrev pub reply_of : Answer → Reply
-reply_of (Found opened size) = reply 0 opened size
-reply_of (Nothing opened) = reply 100 opened 0
-reply_of (Spent opened) = reply 101 opened 0
-reply_of (Paused opened) = reply 102 opened 0
-reply_of (Refused r) = reply (refusal_number r) 0 0
+abbrev pub reply_of : Result Answer Refusal → Reply
+reply_of (Ok (Found opened size)) = reply 0 opened size
+reply_of (Ok (Nothing opened)) = reply 100 opened 0
+reply_of (Ok (Spent opened)) = reply 101 opened 0
+reply_of (Ok (Paused opened)) = reply 102 opened 0
+reply_of (Err r) = reply (refusal_number r) 0 0
 
 abbrev pub out_after : Outcome → List ℕ → List ℕ
 out_after (route es c σ n) out = sheet_of es c σ ++ drop (length (sheet_of es c σ)) out

@@ -18,25 +18,27 @@
 -- Answers:
 --   Listed b numbers places clauses
 --                         the plan b is accepted, and the arrays have its number of modes, the places of its named belts, and its clauses
+--   IsListed b prepared   the same of the code's PreparedPlan
 --   best_of b trip v       what a search for the trip that found its best route comes to
 --
 -- Assumes nothing.
 use Rattle.std.specs.Prelude.{◌≡◌, ℕ, Bool, true, false, not, ◌&&◌, ◌||◌, List, [], ◌∷◌, map, get_or, ltb}
 use Rattle.std.proofs.Math.Option.{Option, none, some}
-use Rattle.plan.specs.declared.named.Place.{Place}
-use Rattle.plan.specs.declared.named.Place.TheVariants.{At, Unnamed}
+use Rattle.plan.specs.Plan.{Place}
+use Rattle.std.specs.Prelude.{Some, None}
 use Rattle.plan.specs.declared.read.Literal.{Literal}
 use Rattle.plan.specs.declared.read.Literal.TheVariants.{OfBelt, OfMode}
 use Rattle.plan.specs.Bounds.{max_named}
 use Rattle.plan.specs.Lists.{count_by, keep, upto}
 use Rattle.plan.specs.Plan.{Belt, plan_of, named}
 use Rattle.plan.specs.Reading.{Bytes}
-use Rattle.route.specs.declared.path.Route.{Route}
+use Rattle.route.specs.declared.belts.Route.{Route}
 use Rattle.route.specs.declared.path.Trip.{Trip}
 use Rattle.route.specs.declared.relax.Fixings.{Fixings}
 use Rattle.route.specs.Routes.{cost}
 use Rattle.route.specs.Permission.{terms_of, lowest}
 use Rattle.route.specs.Values.{packed, route_in, route_of, in_mask, with_place, subproblem_in, named_places, Ruled}
+use Rattle.search.specs.declared.prepare.PreparedPlan.{PreparedPlan}
 use Rattle.search.specs.declared.query.Query.{Query}
 use Rattle.search.specs.declared.state.Search.{Search}
 use Rattle.search.specs.declared.state.Ending.{Ending}
@@ -56,17 +58,17 @@ belts_in (OfBelt e wanted ∷ ls) = e.0 ∷ belts_in ls
 belts_in (OfMode m wanted ∷ ls) = belts_in ls
 
 abbrev pub with_rule : List ℕ → ℕ → ℕ → List ℕ
-with_rule xs n m = map (λ (k : ℕ). count_by (ltb k n && in_mask m (At k)) (get_or xs k 0)) (upto 0 max_named)
+with_rule xs n m = map (λ (k : ℕ). count_by (ltb k n && in_mask m (Some k)) (get_or xs k 0)) (upto 0 max_named)
 
 abbrev pub unfixed_at : Fixings → ℕ → Bool
-unfixed_at f k = not (in_mask f.required (At k) || in_mask f.forbidden (At k))
+unfixed_at f k = not (in_mask f.required (Some k) || in_mask f.forbidden (Some k))
 
 abbrev pub unfixed_places : Fixings → ℕ → List ℕ
 unfixed_places f n = keep (unfixed_at f) (upto 0 n)
 
 abbrev pub at_place : Option ℕ → Place
-at_place none = Unnamed
-at_place (some k) = At k
+at_place none = None
+at_place (some k) = Some k
 
 -- ---- steps
 
@@ -79,8 +81,8 @@ child_at f q true = record { required = with_place f.required q; forbidden = f.f
 child_at f q false = record { required = f.required; forbidden = with_place f.forbidden q }
 
 abbrev pub branch_at : Place → Judged
-branch_at (At k) = Branch k
-branch_at Unnamed = Drop
+branch_at (Some k) = Branch k
+branch_at None = Drop
 
 abbrev pub tested_as : Place → Option ℕ → Judged
 tested_as q (some σ) = Best
@@ -115,6 +117,9 @@ pub record Listed (b numbers places clauses : List ℕ) : Type 0 where
   pub modes : modes_at numbers ≡ (plan_of b).modes
   pub placed : places ≡ named_places b
   pub bytes : Bytes b
+
+abbrev pub IsListed : List ℕ → PreparedPlan → Type 0
+IsListed b prepared = Listed b prepared.numbers.now prepared.places.now prepared.clauses.now
 
 abbrev pub best_of : List ℕ → Trip → Search → Outcome
 best_of b trip v = best_route (terms_of (plan_of b) trip) v.opened (some (route_in b v.best))

@@ -14,7 +14,7 @@
 --                       stands last in the array
 --   is_held k            a Search with the bound k holds a best route
 --   best_in b t r        the best route of the plan b that a Search holds, if t says that it holds one; state_in b v: the state that it stands for
---   ending_in e          the ending that the code's enum stands for, none where the search goes on
+--   ending_in o          the ending that the code's enum stands for, none where the search goes on
 --   turn_in b v          what a step handed back stands for
 --   bound_of o           what a route may cost at most to improve on the best, o: as much as that, or any cost of a route where none is held
 --   Deep p xs           of the waiting subproblems each fixes at least as many named belts as there are older ones
@@ -23,6 +23,7 @@
 --                       (Claims.antt)
 --   Ready b words numbers places clauses q
 --                       the arrays are the prepared plan b, s and t of the query q are its junctions, and the lock is not wrong
+--   IsReady b prepared q the same of the code's PreparedPlan, which is these arrays
 --   step_in b q v        one step of the query q from the state that a Search stands for
 --   newest_of v          the masks of the newest subproblem that waits
 --   relaxed_in b q f     the relaxed route of the masks f for the trip q
@@ -33,26 +34,28 @@
 -- Assumes nothing.
 use Rattle.std.specs.Prelude.{◌≡◌, ℕ, zero, suc, ◌+◌, ◌-◌, ◌≤◌, Bool, true, false, not, ◌||◌, List, [], ◌∷◌, ◌++◌, map, length, get_or, replicate, eqb}
 use Rattle.std.proofs.Math.Option.{Option, none, some}
-use Rattle.plan.specs.declared.named.Place.{Place}
-use Rattle.plan.specs.declared.named.Place.TheVariants.{Unnamed}
+use Rattle.plan.specs.Plan.{Place}
+use Rattle.std.specs.Prelude as code
+use Rattle.std.specs.Prelude.{Some, None}
 use Rattle.plan.specs.Bounds.{max_named}
 use Rattle.plan.specs.Plan.{Belt, Plan, plan_of, named, place_of}
 use Rattle.plan.specs.Records.{records}
 use Rattle.plan.specs.Words.{padded, words_in, row_numbers, row_numbers_end}
 use Rattle.plan.specs.Reading.{Accepted, Bytes}
-use Rattle.route.specs.declared.path.Route.{Route}
+use Rattle.route.specs.declared.belts.Route.{Route}
 use Rattle.route.specs.declared.path.Trip.{Trip}
 use Rattle.route.specs.declared.relax.Fixings.{Fixings}
 use Rattle.route.specs.Routes.{wrong_ends, cost}
 use Rattle.route.specs.Permission.{wrong_lock}
 use Rattle.route.specs.Subproblems.{Subproblem, relaxed}
 use Rattle.route.specs.Values.{ids_of, packed, Known, route_in, OfNamed, subproblem_in, named_places, at_most, unbounded, walked_of, Clauses}
+use Rattle.search.specs.declared.prepare.PreparedPlan.{PreparedPlan}
 use Rattle.search.specs.declared.query.Query.{Query}
 use Rattle.search.specs.declared.state.Search.{Search}
 use Rattle.search.specs.declared.state.Stepped.{Stepped}
 use Rattle.search.specs.Branching.{fixed_count, rule_count}
-use Rattle.search.specs.declared.state.Ending as code
-use Rattle.search.specs.declared.state.Ending.TheVariants.{GoesOn, Found, Nothing, Spent}
+use Rattle.search.specs.declared.state.Ending as ended
+use Rattle.search.specs.declared.state.Ending.TheVariants.{Found, Nothing, Spent}
 use Rattle.search.specs.Search.{State, Ending, found_route, found_none, budget_spent, Turn, step}
 use Rattle.search.specs.Answers.{Request, problem_in}
 
@@ -86,7 +89,7 @@ pub record Prepared (b words numbers places clauses : List ℕ) : Type 0 where
   pub ruled : Clauses b clauses
 
 abbrev pub picked_place : List ℕ → Option ℕ → Place
-picked_place ns none = Unnamed
+picked_place ns none = None
 picked_place ns (some e) = place_of ns e
 
 -- ---- searches
@@ -114,11 +117,11 @@ best_in b false r = none
 abbrev pub state_in : List ℕ → Search → State
 state_in b v = record { waiting = waiting_in b v.waiting v.count; opened = v.opened; best = best_in b (is_held v.bound) v.best }
 
-abbrev pub ending_in : code.Ending → Option Ending
-ending_in GoesOn = none
-ending_in Found = some found_route
-ending_in Nothing = some found_none
-ending_in Spent = some budget_spent
+abbrev pub ending_in : code.Option ended.Ending → Option Ending
+ending_in None = none
+ending_in (Some Found) = some found_route
+ending_in (Some Nothing) = some found_none
+ending_in (Some Spent) = some budget_spent
 
 abbrev pub turn_in : List ℕ → Stepped → Turn
 turn_in b v = record { state = state_in b v.search; ending = ending_in v.ending }
@@ -145,6 +148,10 @@ pub record Ready (b words numbers places clauses : List ℕ) (q : Query) : Type 
   pub prepared : Prepared b words numbers places clauses
   pub junctions : wrong_ends (plan_of b) q.trip.s q.trip.t ≡ false
   pub lock : wrong_lock (plan_of b) q.trip.lock ≡ false
+
+-- the same of the arrays where the code hands them about as one value
+abbrev pub IsReady : List ℕ → PreparedPlan → Query → Type 0
+IsReady b prepared q = Ready b prepared.words.now prepared.numbers.now prepared.places.now prepared.clauses.now q
 
 abbrev pub newest_of : Search → Fixings
 newest_of v = get_or v.waiting (v.count - 1) no_fixings

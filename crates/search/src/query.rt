@@ -4,7 +4,8 @@ ghost use Rattle.search.specs.Answers.{wrong_query};
 
 use route::path::Trip;
 
-// A query: the trip, which belt is picked (0 to 2), which child is taken next (0 or 1), and how many subproblems may be opened.
+// A query: the trip, which belt is picked (0 to 2), which child is taken next (0 or 1), and how many subproblems may be opened. Pick and order are the
+// numbers of the interface: a caller gives any, line 9 refuses some, and a step is said to do what the written one does for every number.
 #[derive(Clone, Copy)]
 pub struct Query {
     pub trip: Trip,
@@ -17,11 +18,5 @@ pub struct Query {
 pub fn wrong_query(query: Query) -> bool
     ensures { result ≡ wrong_query query }
 {
-    if 2 < query.pick {
-        return true;
-    }
-    if 1 < query.order {
-        return true;
-    }
-    query.budget == 0
+    query.pick > 2 || query.order > 1 || query.budget == 0
 }

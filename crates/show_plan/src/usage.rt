@@ -1,12 +1,5 @@
 // How the program is used, in words.
-
-use output::Streams;
-
-// Prints how the program is used.
-pub fn print<R: Streams>(rt: &R) {
-    output::print(
-        rt,
-        b"usage: show_plan [PLAN]
+pub const USAGE: &[u8] = b"usage: show_plan [PLAN]
 Shows a depot plan in words.
   PLAN   the file that holds the plan; - or none is standard input
 Prints, for an accepted plan, the counts of junctions and modes, a line for each
@@ -15,6 +8,4 @@ among them. For any other it prints
   refused n   line n of the refusal table, whose words go to standard error
 -h or --help prints this, --version the versions of the planner and its kit.
 The exit status says nothing: it is always 0.
-",
-    );
-}
+";

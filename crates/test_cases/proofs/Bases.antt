@@ -1,38 +1,30 @@
--- Laws of the plans that cases start from (specs/Plans.antt): of a record written over bytes that are known, of the two loops that write a pair
--- of records at each turn, and of the plan that a line says.
+-- Laws of the plans that cases start from (specs/Plans.antt): of the two loops that write a pair of records at each turn, and of the plan that
+-- a line says.
 --
 --   blank_is       an array of case_bytes zeros is the bytes before anything is written
---   over           a record that is written over b is written over a, where b ≡ a
 --   twins_next     a turn of the loop over belts: to write those that are left gives what it gave before the turn
---   twins_done     the end of that loop: all belts are written over what stood there before it
---   links_next, links_done
---                  the same for the loop over junctions
---   letter_p       a letter that is neither N nor R is for plan P
+--   links_next     the same for the loop over junctions
 --   plan_is        the plan of a line, from what is read of it and written one after the other
 --
 -- Assumes nothing.
 use mathlib.Core.Path.{◌≡◌, refl, sym, ◌∙◌, ap}
-use mathlib.Core.Bool.{Bool, true, false}
-use Prim.Native.Nat.{ℕ, ◌+◌, ◌≤◌, ◌<◌}
+use Prim.Native.Nat.{ℕ, ◌+◌, ◌<◌}
 use mathlib.Core.List.{List}
-use lib.ListN.{get_or, drop, replicate}
-use lib.Dec.{eqb}
-use borrow.Author.Tests.{ne_eqb}
+use lib.ListN.{get_or, replicate}
 use Rattle.plan.specs.Lists.{upto}
-use Rattle.plan.proofs.Lists.{upto_step, upto_end}
-use Rattle.test_cases.specs.declared.lines.Number.{Number}
+use Rattle.plan.proofs.Lists.{upto_step}
 use Rattle.test_cases.specs.declared.plans.Base.{Base}
-use Rattle.test_cases.specs.declared.plans.Base.TheVariants.{P, Named, Row}
 use Rattle.test_cases.specs.declared.plans.Plan.{Plan}
 use Rattle.test_cases.specs.Records.{put_record, case_bytes}
-use Rattle.test_cases.specs.Lines.{number_at, numbers_in, changed}
-use Rattle.test_cases.specs.Plans.{blank, fields, put_twins, put_links, put_base, base_of, plan_at}
+use Rattle.test_cases.specs.Lines.{number_in, number_or_zero, numbers_in, changed}
+use Rattle.test_cases.specs.Plans.{blank, fields, put_twins, put_links, put_base, base_of, plan_in}
 
 pub blank_is : replicate case_bytes 0 ≡ blank
 unfolding blank
 blank_is = refl
 
-pub over : {a b c : List ℕ} (r : ℕ) (fs : List ℕ) → b ≡ a → c ≡ put_record b r fs → c ≡ put_record a r fs
+-- a record that is written over b is written over a, where b ≡ a
+over : {a b c : List ℕ} (r : ℕ) (fs : List ℕ) → b ≡ a → c ≡ put_record b r fs → c ≡ put_record a r fs
 over r fs e h = h ∙ ap (λ (k : List ℕ). put_record k r fs) e
 
 module _ (a b c d : List ℕ) (e : ℕ) where
@@ -54,30 +46,17 @@ module _ (a b c d : List ℕ) (e : ℕ) where
   links_next l h k left =
       ap (λ (x : List ℕ). put_links x (upto (e + 1) 256)) (over _ _ h k) ∙ sym (ap (put_links b) (upto_step e 256 l)) ∙ left
 
-module _ (a b c : List ℕ) (e : ℕ) where
-  pub twins_done : 51 ≤ e → put_twins c (upto e 51) ≡ put_twins b (upto 3 51) → b ≡ a → c ≡ put_twins a (upto 3 51)
-  twins_done l left h = sym (ap (put_twins c) (upto_end e 51 l)) ∙ left ∙ ap (λ (x : List ℕ). put_twins x (upto 3 51)) h
-
-  pub links_done : 256 ≤ e → put_links c (upto e 256) ≡ put_links b (upto 1 256) → b ≡ a → c ≡ put_links a (upto 1 256)
-  links_done l left h = sym (ap (put_links c) (upto_end e 256 l)) ∙ left ∙ ap (λ (x : List ℕ). put_links x (upto 1 256)) h
-
-pub letter_p : (c : ℕ) → (c ≡ 78 → ⊥) → (c ≡ 82 → ⊥) → base_of c ≡ P
-letter_p c n r =
-    ap (λ (t : Bool). elim t [ true ↦ Named | false ↦ elim (eqb c 82) [ true ↦ Row | false ↦ P ] ]) (ne_eqb c 78 n)
-    ∙ ap (λ (t : Bool). elim t [ true ↦ Row | false ↦ P ]) (ne_eqb c 82 r)
-
 -- both fields of the plan go along with their equations
 pub plan_is :
-    (text : List ℕ) (at : ℕ) {zeros b c : List ℕ} {base : Base} {n : Number} →
+    (text : List ℕ) {zeros b c rest : List ℕ} {base : Base} {size : ℕ} →
     zeros ≡ blank →
-    base ≡ base_of (get_or text (at + 2) 10) →
+    base ≡ base_of (get_or text 2 10) →
     b ≡ put_base zeros base →
-    n ≡ number_at text at →
-    c ≡ changed b (numbers_in (drop n.next text)) →
-    ◌≡◌ {A = Plan} (record { bytes = c; size = n.value }) (plan_at text at)
-plan_is text at {zeros} {b} {c} {base} {n} z letter start number rest = λ i. record { bytes = bytes i; size = (number i).value }
+    size ≡ number_or_zero text →
+    rest ≡ (number_in text).rest →
+    c ≡ changed b (numbers_in rest) →
+    ◌≡◌ {A = Plan} (record { bytes = c; size = size }) (plan_in text)
+plan_is text {zeros} {b} {c} {rest} {base} {size} z letter start number left changes = λ i. record { bytes = bytes i; size = number i }
   where
-    bytes : c ≡ (plan_at text at).bytes
-    bytes =
-        rest
-        ∙ (λ i. changed ((start ∙ (λ j. put_base (z j) (letter j))) i) (numbers_in (drop (number i).next text)))
+    bytes : c ≡ (plan_in text).bytes
+    bytes = changes ∙ (λ i. changed ((start ∙ (λ j. put_base (z j) (letter j))) i) (numbers_in (left i)))

@@ -1,259 +1,214 @@
--- How a text is read byte by byte: what the definitions of specs/Lines.antt say from a place on, told by the byte that stands there. What is
--- left of the text at a place is that byte, before what is left at the next (`left_at`); each law of a step is about the two.
+-- What the definitions of specs/Lines.antt say of a text, told by the first byte of a kind in it, or by the next number.
 --
---   number_digit, number_stops, number_passes, number_ends
---                  the next number: at a digit, at a byte where it stops, at a byte that is passed over, at the end of the text
---   line_on, line_stops, line_ends
---                  the length of a line: at another byte than its end, at its end, at the end of the text
---   behind_on, behind_stops, behind_found, behind_ends
---                  the way behind a sign: at another byte, at the end of the line, at the sign, at the end of the text
---   name_on, name_stops, name_ends
---                  the length of a name: at another byte than a space, at a space, at the end of the text
---   numbers_found  all numbers are the next one, before all numbers behind it
---   numbers_none   there are no numbers where there is no next one
+--   before_is      how many bytes are before the first of a kind, told by its place
+--   line_found     the length of a line, told by the place of its first newline
+--   lines_next     the lines of a text are the text, for the first, and the lines from the next one on
+--   behind_found   the way behind a sign, told by the place of the first one before the end of the line
+--   number_next    all numbers of a text are the next one, before all numbers of what is left behind it
+--   number_none    there are no numbers where there is no next one
 --
 -- Assumes nothing.
-use mathlib.Core.Path.{◌≡◌, refl, sym, ◌∙◌, ap, subst}
-use mathlib.Core.Logic.{◌⊎◌, inl, inr}
-use mathlib.Core.Bool.{Bool, true, false, ◌||◌, true≢false}
-use mathlib.Core.List.{List, [], ◌∷◌}
-use Prim.Native.Nat.{ℕ, zero, suc, ◌+◌, ◌-◌, ◌≤◌, ◌<◌}
-use native.Mathlib.Omega.{arith}
-use native.Mathlib.Nat.{add-zero}
-use native.Mathlib.Numerals.{add-one}
-use lib.ListN.{length, get_or, drop, drop_of_length-le}
-use lib.Seq.{drop-cons, drop-nil}
+use Rattle.std.proofs.Common.{◌≡◌, ◌+◌, ◌-◌, ℕ, suc, Bool, true, false, ◌||◌, List, [], ◌∷◌, length, refl, sym, ap, ◌∙◌, arith, cond, Option, Some, None, MatchOption, ◌⊎◌, inl, inr, unwrap_or, is_some, subst, take, drop, ◌<◌}
+use Rattle.std.specs.List.{position, position_from}
+use Rattle.std.proofs.lemmas.Iterator.Adapters.{position_from-zero}
+use Rattle.std.proofs.lemmas.Option.{MatchOption-at_some, MatchOption-at_none}
 use lib.Dec.{eqb}
-use borrow.Author.Tests.{eq-eqb, ne_eqb}
-use Rattle.plan.proofs.Lists.{test, never}
-use Rattle.test_cases.specs.declared.lines.Number.{Number}
-use Rattle.test_cases.specs.Lines.{is_digit, is_sign, appended, number_from, number_at, begun, numbers_from, numbers_in, line_length, behind_length, name_length}
+use Rattle.plan.proofs.Lists.{test}
+use Rattle.test_cases.specs.Lines.{is_digit, is_sign, appended, Read, number_from, number_in, begun, numbers_from, numbers_in, line_length, line_starts, lines_in, behind_length, length_before}
 
--- what is left of the text at a place within it
-left_at : (text : List ℕ) (i : ℕ) → i < length text → drop i text ≡ get_or text i 0 ∷ drop (i + 1) text
-left_at text i h = drop-cons text i 0 h ∙ ap (λ (k : ℕ). get_or text i 0 ∷ drop k text) (sym (add-one i))
+-- ---- the first byte of a kind
 
--- ---- the next number
+before_from : (b k : ℕ) (cs : List ℕ) → k + length_before b cs ≡ unwrap_or (position_from (λ c. eqb c b) k cs) (k + length cs)
+before_from b k [] = refl
+before_from b k (c ∷ cs) = go (eqb c b) (before_from b (k + 1) cs)
+  where
+    go : (t : Bool) → k + 1 + length_before b cs ≡ unwrap_or (position_from (λ c. eqb c b) (k + 1) cs) (k + 1 + length cs)
+        → k + elim t as (λ _. ℕ) [ true ↦ 0 | false ↦ suc (length_before b cs) ]
+        ≡ unwrap_or (cond t (Some k) (position_from (λ c. eqb c b) (k + 1) cs)) (k + suc (length cs))
+    go true e = omega arith
+    go false e =
+        let long : k + suc (length cs) ≡ k + 1 + length cs = omega arith in
+        let more : k + suc (length_before b cs) ≡ k + 1 + length_before b cs = omega arith in
+        more ∙ e ∙ ap (unwrap_or (position_from (λ c. eqb c b) (k + 1) cs)) (sym long)
 
-at_digit : (found : Bool) (v at c : ℕ) (cs : List ℕ) → is_digit c ≡ true → number_from found v at (c ∷ cs) ≡ number_from true (appended v (c - 48)) (suc at) cs
-at_digit found v at c cs h =
-    ap
-    (λ t. elim t [
-      | true ↦ number_from true (appended v (c - 48)) (suc at) cs
-      | false ↦ elim (found || is_sign c) [ true ↦ record { found = found; value = v; next = at } | false ↦ number_from found v (suc at) cs ]
-    ])
-    h
+pub before_is : (b : ℕ) (cs : List ℕ) → length_before b cs ≡ unwrap_or (position (λ c. eqb c b) cs) (length cs)
+before_is b cs =
+    let e = before_from b 0 cs in
+    let z : 0 + length_before b cs ≡ length_before b cs = omega arith in
+    let y : 0 + length cs ≡ length cs = omega arith in
+    sym z ∙ e ∙ ap (unwrap_or (position_from (λ c. eqb c b) 0 cs)) y ∙ ap (λ (o : Option ℕ). unwrap_or o (length cs)) (sym (position_from-zero (λ c. eqb c b) cs))
 
--- at a byte that is no digit
-at_other : (found : Bool) (v at c : ℕ) (cs : List ℕ) (stops : Bool) → is_digit c ≡ false → (found || is_sign c) ≡ stops
-    → number_from found v at (c ∷ cs) ≡ elim stops [ true ↦ record { found = found; value = v; next = at } | false ↦ number_from found v (suc at) cs ]
-at_other found v at c cs stops h s =
-    ap
-    (λ t. elim t [
-      | true ↦ number_from true (appended v (c - 48)) (suc at) cs
-      | false ↦ elim (found || is_sign c) [ true ↦ record { found = found; value = v; next = at } | false ↦ number_from found v (suc at) cs ]
-    ])
-    h
-    ∙ ap (λ t. elim t [ true ↦ record { found = found; value = v; next = at } | false ↦ number_from found v (suc at) cs ]) s
+-- where a line ends, by its first newline
+abbrev line_by : ℕ → List ℕ → Option ℕ → ℕ
+line_by k cs None = k + length cs
+line_by k cs (Some i) = i + 1
 
-pub number_digit : (text : List ℕ) (found : Bool) (v i : ℕ) → i < length text → is_digit (get_or text i 0) ≡ true
-    → number_from found v i (drop i text) ≡ number_from true (appended v (get_or text i 0 - 48)) (i + 1) (drop (i + 1) text)
-number_digit text found v i h d =
-    let c = get_or text i 0 in
-    ap (number_from found v i) (left_at text i h)
-    ∙ at_digit found v i c (drop (i + 1) text) d
-    ∙ ap (λ (k : ℕ). number_from true (appended v (c - 48)) k (drop (i + 1) text)) (sym (add-one i))
+line_from : (k : ℕ) (cs : List ℕ) → k + line_length cs ≡ line_by k cs (position_from (λ c. eqb c 10) k cs)
+line_from k [] = refl
+line_from k (c ∷ cs) = go (eqb c 10) (line_from (k + 1) cs)
+  where
+    go : (b : Bool) → k + 1 + line_length cs ≡ line_by (k + 1) cs (position_from (λ c. eqb c 10) (k + 1) cs)
+        → k + elim b as (λ _. ℕ) [ true ↦ 1 | false ↦ suc (line_length cs) ]
+        ≡ line_by k (c ∷ cs) (cond b (Some k) (position_from (λ c. eqb c 10) (k + 1) cs))
+    go true e = refl
+    go false e = more ∙ e ∙ by_next (position_from (λ c. eqb c 10) (k + 1) cs)
+      where
+        more : k + suc (line_length cs) ≡ k + 1 + line_length cs
+        more = omega arith
 
-pub number_stops : (text : List ℕ) (found : Bool) (v i : ℕ) → i < length text → is_digit (get_or text i 0) ≡ false → (found || is_sign (get_or text i 0)) ≡ true
-    → number_from found v i (drop i text) ≡ record { found = found; value = v; next = i }
-number_stops text found v i h d s = ap (number_from found v i) (left_at text i h) ∙ at_other found v i (get_or text i 0) (drop (i + 1) text) true d s
+        by_next : (o : Option ℕ) → line_by (k + 1) cs o ≡ line_by k (c ∷ cs) o
+        by_next None = omega arith
+        by_next (Some i) = refl
 
-pub number_passes : (text : List ℕ) (found : Bool) (v i : ℕ) → i < length text → is_digit (get_or text i 0) ≡ false → (found || is_sign (get_or text i 0)) ≡ false
-    → number_from found v i (drop i text) ≡ number_from found v (i + 1) (drop (i + 1) text)
-number_passes text found v i h d s =
-    ap (number_from found v i) (left_at text i h)
-    ∙ at_other found v i (get_or text i 0) (drop (i + 1) text) false d s
-    ∙ ap (λ (k : ℕ). number_from found v k (drop (i + 1) text)) (sym (add-one i))
+line_is : (cs : List ℕ) → line_length cs ≡ line_by 0 cs (position (λ c. eqb c 10) cs)
+line_is cs =
+    let e = line_from 0 cs in
+    let z : 0 + line_length cs ≡ line_length cs = omega arith in
+    sym z ∙ e ∙ ap (line_by 0 cs) (sym (position_from-zero (λ c. eqb c 10) cs))
 
-pub number_ends : (text : List ℕ) (found : Bool) (v i : ℕ) → length text ≤ i
-    → number_from found v i (drop i text) ≡ record { found = found; value = v; next = i }
-number_ends text found v i h = ap (number_from found v i) (drop_of_length-le text h)
+pub line_found : (cs : List ℕ) (o : Option ℕ) (r : ℕ) → o ≡ position (λ c. eqb c 10) cs → MatchOption o (r ≡ length cs) (λ i. r ≡ i + 1) → r ≡ line_length cs
+line_found cs o r e m = matched o r m ∙ ap (line_by 0 cs) e ∙ sym (line_is cs)
+  where
+    matched : (o : Option ℕ) (r : ℕ) → MatchOption o (r ≡ length cs) (λ i. r ≡ i + 1) → r ≡ line_by 0 cs o
+    matched None r m = m ∙ omega arith
+    matched (Some i) r m = m
 
--- ---- lengths
+-- within a line, the lines that start further on are those from the next line on
+lines_on : (cs : List ℕ) → line_starts false cs ≡ lines_in (drop (line_length cs) cs)
+lines_on [] = refl
+lines_on (c ∷ cs) = go (eqb c 10) (lines_on cs)
+  where
+    go : (b : Bool) → line_starts false cs ≡ lines_in (drop (line_length cs) cs)
+        → line_starts b cs ≡ lines_in (drop (elim b as (λ _. ℕ) [ true ↦ 1 | false ↦ suc (line_length cs) ]) (c ∷ cs))
+    go true e = refl
+    go false e = e
 
--- one byte more, counted on either side
-one_more : (i n : ℕ) → i + suc n ≡ i + 1 + n
-one_more i n = omega arith
+pub lines_next : (cs : List ℕ) → 0 < length cs → lines_in cs ≡ cs ∷ lines_in (drop (line_length cs) cs)
+lines_next [] h = absurd (omega arith)
+lines_next (c ∷ cs) h = ap (λ (ls : List (List ℕ)). (c ∷ cs) ∷ ls) (lines_on (c ∷ cs))
 
-pub line_on : (text : List ℕ) (i : ℕ) → i < length text → (get_or text i 0 ≡ 10 → ⊥) → i + line_length (drop i text) ≡ i + 1 + line_length (drop (i + 1) text)
-line_on text i h n =
-    let cs = drop (i + 1) text in
-    ap (λ (l : List ℕ). i + line_length l) (left_at text i h)
-    ∙ ap (λ t. i + elim t [ true ↦ 1 | false ↦ suc (line_length cs) ]) (ne_eqb (get_or text i 0) 10 n)
-    ∙ one_more i (line_length cs)
+-- the way behind a sign, by the first one before so many bytes
+abbrev behind_by : ℕ → Option ℕ → ℕ
+behind_by n None = n
+behind_by n (Some i) = i + 1
 
-pub line_stops : (text : List ℕ) (i : ℕ) → i < length text → get_or text i 0 ≡ 10 → i + line_length (drop i text) ≡ i + 1
-line_stops text i h e =
-    ap (λ (l : List ℕ). i + line_length l) (left_at text i h)
-    ∙ ap (λ t. i + elim t [ true ↦ 1 | false ↦ suc (line_length (drop (i + 1) text)) ]) (eq-eqb (get_or text i 0) 10 e)
+behind_from : (sign k : ℕ) (cs : List ℕ)
+    → k + behind_length sign cs ≡ behind_by (k + length_before 10 cs) (position_from (λ c. eqb c sign) k (take (length_before 10 cs) cs))
+behind_from sign k [] = refl
+behind_from sign k (c ∷ cs) = go (eqb c 10) (by_sign (eqb c sign) _ (behind_from sign (k + 1) cs))
+  where
+    by_sign : (t : Bool) (found : Option ℕ) → k + 1 + behind_length sign cs ≡ behind_by (k + 1 + length_before 10 cs) found
+        → k + elim t as (λ _. ℕ) [ true ↦ 1 | false ↦ suc (behind_length sign cs) ] ≡ behind_by (k + suc (length_before 10 cs)) (cond t (Some k) found)
+    by_sign true found e = refl
+    by_sign false found e =
+        let long : k + suc (length_before 10 cs) ≡ k + 1 + length_before 10 cs = omega arith in
+        let more : k + suc (behind_length sign cs) ≡ k + 1 + behind_length sign cs = omega arith in
+        more ∙ e ∙ ap (λ (n : ℕ). behind_by n found) (sym long)
 
-pub line_ends : (text : List ℕ) (i : ℕ) → length text ≤ i → i + line_length (drop i text) ≡ i
-line_ends text i h = ap (λ (l : List ℕ). i + line_length l) (drop_of_length-le text h) ∙ add-zero i
+    go : (b : Bool)
+        → k + elim (eqb c sign) as (λ _. ℕ) [ true ↦ 1 | false ↦ suc (behind_length sign cs) ]
+        ≡ behind_by (k + suc (length_before 10 cs)) (cond (eqb c sign) (Some k) (position_from (λ c. eqb c sign) (k + 1) (take (length_before 10 cs) cs)))
+        → k + elim b as (λ _. ℕ) [ true ↦ 0 | false ↦ elim (eqb c sign) as (λ _. ℕ) [ true ↦ 1 | false ↦ suc (behind_length sign cs) ] ]
+        ≡ behind_by
+        (k + elim b as (λ _. ℕ) [ true ↦ 0 | false ↦ suc (length_before 10 cs) ])
+        (position_from (λ c. eqb c sign) k (take (elim b as (λ _. ℕ) [ true ↦ 0 | false ↦ suc (length_before 10 cs) ]) (c ∷ cs)))
+    go true e = refl
+    go false e = e
 
--- at a byte that does not end the line
-within_line : (text : List ℕ) (sign i : ℕ) → i < length text → (get_or text i 0 ≡ 10 → ⊥)
-    → i + behind_length sign (drop i text) ≡ i + elim (eqb (get_or text i 0) sign) [ true ↦ 1 | false ↦ suc (behind_length sign (drop (i + 1) text)) ]
-within_line text sign i h n =
-    let c = get_or text i 0 in
-    let cs = drop (i + 1) text in
-    ap (λ (l : List ℕ). i + behind_length sign l) (left_at text i h)
-    ∙ ap (λ t. i + elim t [ true ↦ 0 | false ↦ elim (eqb c sign) [ true ↦ 1 | false ↦ suc (behind_length sign cs) ] ]) (ne_eqb c 10 n)
+behind_is : (sign : ℕ) (cs : List ℕ)
+    → behind_length sign cs ≡ behind_by (length_before 10 cs) (position (λ c. eqb c sign) (take (length_before 10 cs) cs))
+behind_is sign cs =
+    let e = behind_from sign 0 cs in
+    let z : 0 + behind_length sign cs ≡ behind_length sign cs = omega arith in
+    let y : 0 + length_before 10 cs ≡ length_before 10 cs = omega arith in
+    sym z
+    ∙ e
+    ∙ ap (λ (n : ℕ). behind_by n (position_from (λ c. eqb c sign) 0 (take (length_before 10 cs) cs))) y
+    ∙ ap (behind_by (length_before 10 cs)) (sym (position_from-zero (λ c. eqb c sign) (take (length_before 10 cs) cs)))
 
-pub behind_on : (text : List ℕ) (sign i : ℕ) → i < length text → (get_or text i 0 ≡ 10 → ⊥) → (get_or text i 0 ≡ sign → ⊥)
-    → i + behind_length sign (drop i text) ≡ i + 1 + behind_length sign (drop (i + 1) text)
-behind_on text sign i h n m =
-    let cs = drop (i + 1) text in
-    within_line text sign i h n
-    ∙ ap (λ t. i + elim t [ true ↦ 1 | false ↦ suc (behind_length sign cs) ]) (ne_eqb (get_or text i 0) sign m)
-    ∙ one_more i (behind_length sign cs)
-
-pub behind_stops : (text : List ℕ) (sign i : ℕ) → i < length text → get_or text i 0 ≡ 10 → i + behind_length sign (drop i text) ≡ i
-behind_stops text sign i h e =
-    let c = get_or text i 0 in
-    let cs = drop (i + 1) text in
-    ap (λ (l : List ℕ). i + behind_length sign l) (left_at text i h)
-    ∙ ap (λ t. i + elim t [ true ↦ 0 | false ↦ elim (eqb c sign) [ true ↦ 1 | false ↦ suc (behind_length sign cs) ] ]) (eq-eqb c 10 e)
-    ∙ add-zero i
-
-pub behind_found : (text : List ℕ) (sign i : ℕ) → i < length text → (get_or text i 0 ≡ 10 → ⊥) → get_or text i 0 ≡ sign
-    → i + behind_length sign (drop i text) ≡ i + 1
-behind_found text sign i h n e =
-    within_line text sign i h n
-    ∙ ap (λ t. i + elim t [ true ↦ 1 | false ↦ suc (behind_length sign (drop (i + 1) text)) ]) (eq-eqb (get_or text i 0) sign e)
-
-pub behind_ends : (text : List ℕ) (sign i : ℕ) → length text ≤ i → i + behind_length sign (drop i text) ≡ i
-behind_ends text sign i h = ap (λ (l : List ℕ). i + behind_length sign l) (drop_of_length-le text h) ∙ add-zero i
-
-pub name_on : (text : List ℕ) (i : ℕ) → i < length text → (get_or text i 0 ≡ 32 → ⊥) → i + name_length (drop i text) ≡ i + 1 + name_length (drop (i + 1) text)
-name_on text i h n =
-    let cs = drop (i + 1) text in
-    ap (λ (l : List ℕ). i + name_length l) (left_at text i h)
-    ∙ ap (λ t. i + elim t [ true ↦ 0 | false ↦ suc (name_length cs) ]) (ne_eqb (get_or text i 0) 32 n)
-    ∙ one_more i (name_length cs)
-
-pub name_stops : (text : List ℕ) (i : ℕ) → i < length text → get_or text i 0 ≡ 32 → i + name_length (drop i text) ≡ i
-name_stops text i h e =
-    ap (λ (l : List ℕ). i + name_length l) (left_at text i h)
-    ∙ ap (λ t. i + elim t [ true ↦ 0 | false ↦ suc (name_length (drop (i + 1) text)) ]) (eq-eqb (get_or text i 0) 32 e)
-    ∙ add-zero i
-
-pub name_ends : (text : List ℕ) (i : ℕ) → length text ≤ i → i + name_length (drop i text) ≡ i
-name_ends text i h = ap (λ (l : List ℕ). i + name_length l) (drop_of_length-le text h) ∙ add-zero i
+pub behind_found : (sign n : ℕ) (cs : List ℕ) (o : Option ℕ) (r : ℕ) → n ≡ length_before 10 cs → o ≡ position (λ c. eqb c sign) (take n cs)
+    → MatchOption o (r ≡ n) (λ i. r ≡ i + 1)
+    → r ≡ behind_length sign cs
+behind_found sign n cs o r l e m =
+    matched o r m
+    ∙ ap (behind_by n) e
+    ∙ ap (λ (k : ℕ). behind_by k (position (λ c. eqb c sign) (take k cs))) l
+    ∙ sym (behind_is sign cs)
+  where
+    matched : (o : Option ℕ) (r : ℕ) → MatchOption o (r ≡ n) (λ i. r ≡ i + 1) → r ≡ behind_by n o
+    matched None r m = m
+    matched (Some i) r m = m
 
 -- ---- all numbers
 
-all_digit : (found : Bool) (v c : ℕ) (cs : List ℕ) → is_digit c ≡ true → numbers_from found v (c ∷ cs) ≡ numbers_from true (appended v (c - 48)) cs
-all_digit found v c cs h =
-    ap
-    (λ t. elim t [
-      | true ↦ numbers_from true (appended v (c - 48)) cs
-      | false ↦ elim (is_sign c) [ true ↦ begun found v [] | false ↦ begun found v (numbers_from false 0 cs) ]
-    ])
-    h
+module _ (n : Option ℕ) (c : ℕ) (cs : List ℕ) where
+  -- the number with the digit c behind it
+  abbrev more : Option ℕ
+  more = Some (appended (unwrap_or n 0) (c - 48))
 
-all_other : (found : Bool) (v c : ℕ) (cs : List ℕ) (sign : Bool) → is_digit c ≡ false → is_sign c ≡ sign
-    → numbers_from found v (c ∷ cs) ≡ elim sign [ true ↦ begun found v [] | false ↦ begun found v (numbers_from false 0 cs) ]
-all_other found v c cs sign h s =
-    ap
-    (λ t. elim t [
-      | true ↦ numbers_from true (appended v (c - 48)) cs
-      | false ↦ elim (is_sign c) [ true ↦ begun found v [] | false ↦ begun found v (numbers_from false 0 cs) ]
-    ])
-    h
-    ∙ ap (λ t. elim t [ true ↦ begun found v [] | false ↦ begun found v (numbers_from false 0 cs) ]) s
+  next_digit : is_digit c ≡ true → number_from n (c ∷ cs) ≡ number_from more cs
+  next_digit d =
+      ap
+      (λ t. elim t [
+        | true ↦ number_from more cs
+        | false ↦ elim (is_some n || is_sign c) [ true ↦ record { number = n; rest = c ∷ cs } | false ↦ number_from n cs ]
+      ])
+      d
 
--- a number that was begun ends before a byte that is no digit; whether that byte is stepped over first makes no difference
-all_begun : (v c : ℕ) (cs : List ℕ) → is_digit c ≡ false → numbers_from true v (c ∷ cs) ≡ v ∷ numbers_in (c ∷ cs)
-all_begun v c cs h = go (is_sign c) refl
+  next_other : (s : Bool) → is_digit c ≡ false → (is_some n || is_sign c) ≡ s
+      → number_from n (c ∷ cs) ≡ elim s [ true ↦ record { number = n; rest = c ∷ cs } | false ↦ number_from n cs ]
+  next_other s d e =
+      ap
+      (λ t. elim t [
+        | true ↦ number_from more cs
+        | false ↦ elim (is_some n || is_sign c) [ true ↦ record { number = n; rest = c ∷ cs } | false ↦ number_from n cs ]
+      ])
+      d
+      ∙ ap (λ t. elim t [ true ↦ record { number = n; rest = c ∷ cs } | false ↦ number_from n cs ]) e
+
+  all_digit : is_digit c ≡ true → numbers_from n (c ∷ cs) ≡ numbers_from more cs
+  all_digit d =
+      ap (λ t. elim t [ true ↦ numbers_from more cs | false ↦ elim (is_sign c) [ true ↦ begun n [] | false ↦ begun n (numbers_in cs) ] ]) d
+
+  all_other : (s : Bool) → is_digit c ≡ false → is_sign c ≡ s → numbers_from n (c ∷ cs) ≡ elim s [ true ↦ begun n [] | false ↦ begun n (numbers_in cs) ]
+  all_other s d e =
+      ap (λ t. elim t [ true ↦ numbers_from more cs | false ↦ elim (is_sign c) [ true ↦ begun n [] | false ↦ begun n (numbers_in cs) ] ]) d
+      ∙ ap (λ t. elim t [ true ↦ begun n [] | false ↦ begun n (numbers_in cs) ]) e
+
+-- all numbers are the next of them, before those of what is left behind it
+abbrev Told : List ℕ → Read → Type 0
+Told all r = MatchOption r.number (all ≡ []) (λ v. all ≡ v ∷ numbers_in r.rest)
+
+told_by : (n : Option ℕ) (cs : List ℕ) → Told (numbers_from n cs) (number_from n cs)
+told_by None [] = refl
+told_by (Some v) [] = refl
+told_by n (c ∷ cs) = go (λ (m : Option ℕ). told_by m cs) (test (is_digit c)) n (test (is_sign c))
   where
-    go : (s : Bool) → is_sign c ≡ s → numbers_from true v (c ∷ cs) ≡ v ∷ numbers_in (c ∷ cs)
-    go true e = all_other true v c cs true h e ∙ ap (λ (l : List ℕ). v ∷ l) (sym (all_other false 0 c cs true h e))
-    go false e = all_other true v c cs false h e ∙ ap (λ (l : List ℕ). v ∷ l) (sym (all_other false 0 c cs false h e))
-
--- what is left at the next place
-left_next : (text : List ℕ) (at c : ℕ) (cs : List ℕ) → drop at text ≡ c ∷ cs → drop (suc at) text ≡ cs
-left_next [] at c cs e = absurd (nil_cons (sym (drop-nil at) ∙ e))
-  where
-    is_nil : List ℕ → Bool
-    is_nil [] = true
-    is_nil (x ∷ xs) = false
-
-    nil_cons : [] ≡ c ∷ cs → ⊥
-    nil_cons h = true≢false (ap is_nil h)
-left_next (x ∷ xs) zero c cs e = ap (λ (l : List ℕ). drop 1 l) e
-left_next (x ∷ xs) (suc at) c cs e = left_next xs at c cs e
-
--- all numbers are the next of them, before those of the text behind it
-abbrev Told : List ℕ → List ℕ → Number → Type 0
-Told text all r = all ≡ r.value ∷ numbers_in (drop r.next text)
-
--- a number that was begun is the next
-begun_told : (text cs : List ℕ) (v at : ℕ) → drop at text ≡ cs → Told text (numbers_from true v cs) (number_from true v at cs)
-begun_told text [] v at e = ap (λ (l : List ℕ). v ∷ numbers_in l) (sym e)
-begun_told text (c ∷ cs) v at e = go (begun_told text cs (appended v (c - 48)) (suc at) (left_next text at c cs e)) (test (is_digit c))
-  where
-    go : Told text (numbers_from true (appended v (c - 48)) cs) (number_from true (appended v (c - 48)) (suc at) cs)
-        → (is_digit c ≡ true) ⊎ (is_digit c ≡ false)
-        → Told text (numbers_from true v (c ∷ cs)) (number_from true v at (c ∷ cs))
-    go told (inl d) = all_digit true v c cs d ∙ subst (Told text (numbers_from true (appended v (c - 48)) cs)) (sym (at_digit true v at c cs d)) told
-    go told (inr d) =
-        all_begun v c cs d
-        ∙ subst (Told text (v ∷ numbers_in (c ∷ cs))) (sym (at_other true v at c cs true d refl)) (ap (λ (l : List ℕ). v ∷ numbers_in l) (sym e))
-
--- a number that was begun is found
-begun_found : (cs : List ℕ) (v at : ℕ) → (number_from true v at cs).found ≡ true
-begun_found [] v at = refl
-begun_found (c ∷ cs) v at = go (begun_found cs (appended v (c - 48)) (suc at)) (test (is_digit c))
-  where
-    go : (number_from true (appended v (c - 48)) (suc at) cs).found ≡ true
-        → (is_digit c ≡ true) ⊎ (is_digit c ≡ false)
-        → (number_from true v at (c ∷ cs)).found ≡ true
-    go is (inl d) = ap (λ (r : Number). r.found) (at_digit true v at c cs d) ∙ is
-    go is (inr d) = ap (λ (r : Number). r.found) (at_other true v at c cs true d refl)
-
--- What is told by the next number, found or not, where none was begun. It is shown by following the bytes: a digit begins a number, a sign
--- is the end of both, and any other byte is passed over by both.
-abbrev Said : List ℕ → List ℕ → Number → Type 0
-Said text all r = (r.found ≡ true → Told text all r) × (r.found ≡ false → all ≡ [])
-
-next_said : (text cs : List ℕ) (at : ℕ) → drop at text ≡ cs → Said text (numbers_in cs) (number_from false 0 at cs)
-next_said text [] at e = (λ h. absurd (true≢false (sym h)), λ _. refl)
-next_said text (c ∷ cs) at e = go (next_said text cs (suc at) (left_next text at c cs e)) (test (is_digit c)) (test (is_sign c))
-  where
-    v : ℕ
-    v = appended 0 (c - 48)
-
-    go : Said text (numbers_in cs) (number_from false 0 (suc at) cs)
-        → (is_digit c ≡ true) ⊎ (is_digit c ≡ false)
-        → (is_sign c ≡ true) ⊎ (is_sign c ≡ false)
-        → Said text (numbers_in (c ∷ cs)) (number_from false 0 at (c ∷ cs))
-    go said (inl d) s =
-        subst (Said text (numbers_in (c ∷ cs))) (sym (at_digit false 0 at c cs d)) (
-          λ _. all_digit false 0 c cs d ∙ begun_told text cs v (suc at) (left_next text at c cs e),
-          λ h. absurd (never (begun_found cs v (suc at)) h),
+    go : ((m : Option ℕ) → Told (numbers_from m cs) (number_from m cs)) → (is_digit c ≡ true) ⊎ (is_digit c ≡ false) → (n : Option ℕ) → (is_sign c ≡ true) ⊎ (is_sign c ≡ false)
+        → Told (numbers_from n (c ∷ cs)) (number_from n (c ∷ cs))
+    go told (inl d) n s =
+        subst (Told (numbers_from n (c ∷ cs))) (sym (next_digit n c cs d)) (
+        subst (λ (l : List ℕ). Told l (number_from (Some (appended (unwrap_or n 0) (c - 48))) cs)) (sym (all_digit n c cs d)) (told (Some (appended (unwrap_or n 0) (c - 48))))
         )
-    go said (inr d) (inl s) =
-        subst (Said text (numbers_in (c ∷ cs))) (sym (at_other false 0 at c cs true d s)) (
-          λ h. absurd (true≢false (sym h)),
-          λ _. all_other false 0 c cs true d s,
+    go told (inr d) (Some v) (inl s) =
+        subst (Told (numbers_from (Some v) (c ∷ cs))) (sym (next_other (Some v) c cs true d refl)) (
+        all_other (Some v) c cs true d s ∙ ap (λ (l : List ℕ). v ∷ l) (sym (all_other None c cs true d s))
         )
-    go said (inr d) (inr s) =
-        let on = all_other false 0 c cs false d s in
-        subst (Said text (numbers_in (c ∷ cs))) (sym (at_other false 0 at c cs false d s)) (λ h. on ∙ said.0 h, λ h. on ∙ said.1 h)
+    go told (inr d) (Some v) (inr s) =
+        subst (Told (numbers_from (Some v) (c ∷ cs))) (sym (next_other (Some v) c cs true d refl)) (
+        all_other (Some v) c cs false d s ∙ ap (λ (l : List ℕ). v ∷ l) (sym (all_other None c cs false d s))
+        )
+    go told (inr d) None (inl s) = subst (Told (numbers_in (c ∷ cs))) (sym (next_other None c cs true d s)) (all_other None c cs true d s)
+    go told (inr d) None (inr s) =
+        subst (Told (numbers_in (c ∷ cs))) (sym (next_other None c cs false d s)) (
+        subst (λ (l : List ℕ). Told l (number_in cs)) (sym (all_other None c cs false d s)) (told None)
+        )
 
-pub numbers_found : (text : List ℕ) (at : ℕ) → (number_at text at).found ≡ true
-    → numbers_in (drop at text) ≡ (number_at text at).value ∷ numbers_in (drop (number_at text at).next text)
-numbers_found text at h = (next_said text (drop at text) at refl).0 h
+-- the next number, where there is one, is the first of all, and where there is none there are none
+pub number_next : (cs : List ℕ) (v : ℕ) (rest : List ℕ) → Some v ≡ (number_in cs).number → rest ≡ (number_in cs).rest → numbers_in cs ≡ v ∷ numbers_in rest
+number_next cs v rest e f =
+    MatchOption-at_some (numbers_in cs ≡ []) (λ v. numbers_in cs ≡ v ∷ numbers_in (number_in cs).rest) v (sym e) (told_by None cs)
+    ∙ ap (λ (l : List ℕ). v ∷ numbers_in l) (sym f)
 
-pub numbers_none : (text : List ℕ) (at : ℕ) → (number_at text at).found ≡ false → numbers_in (drop at text) ≡ []
-numbers_none text at h = (next_said text (drop at text) at refl).1 h
+pub number_none : (cs : List ℕ) → None ≡ (number_in cs).number → numbers_in cs ≡ []
+number_none cs e = MatchOption-at_none (numbers_in cs ≡ []) (λ v. numbers_in cs ≡ v ∷ numbers_in (number_in cs).rest) (sym e) (told_by None cs)

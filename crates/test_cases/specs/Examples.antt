@@ -1,8 +1,8 @@
 -- Worked out by computation: what the definitions say of plan P and of a few lines. Assumes nothing.
-use Rattle.std.specs.Prelude.{◌≡◌, refl, true, false, ℕ, List, [], ◌∷◌, replicate}
+use Rattle.std.specs.Prelude.{◌≡◌, refl, ℕ, List, [], ◌∷◌, drop, replicate, Some, None}
 use Rattle.plan.specs.Examples.{plan_p}
 use Rattle.test_cases.specs.Records.{put_field, put_record}
-use Rattle.test_cases.specs.Lines.{number_at, numbers_in, line_length, behind_length, name_length}
+use Rattle.test_cases.specs.Lines.{number_in, numbers_in, line_length, behind_length, name_length}
 use Rattle.test_cases.specs.Plans.{put_p}
 
 -- written into zeros, P is the plan of the paper as crates/plan has it
@@ -21,10 +21,10 @@ name = refl
 numbers : numbers_in (32 ∷ 49 ∷ 32 ∷ 51 ∷ 32 ∷ 43 ∷ 32 ∷ 52 ∷ 48 ∷ 10 ∷ []) ≡ 1 ∷ 3 ∷ []
 numbers = refl
 
-first : number_at line 3 ≡ record { found = true; value = 1; next = 5 }
+first : number_in (drop 3 line) ≡ record { number = Some 1; rest = drop 5 line }
 first = refl
 
-none_before_a_sign : number_at line 7 ≡ record { found = false; value = 0; next = 8 }
+none_before_a_sign : number_in (drop 7 line) ≡ record { number = None; rest = drop 8 line }
 none_before_a_sign = refl
 
 behind_the_plus : behind_length 43 (32 ∷ 43 ∷ 32 ∷ 52 ∷ 48 ∷ 10 ∷ []) ≡ 2

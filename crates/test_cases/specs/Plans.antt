@@ -7,16 +7,16 @@
 --   put_row b       with 256 junctions in a row; put_links b js: junctions js, each with the belt to the next
 --   put_base b base with the plan that is started from
 --   base_of c       the letter c of a line: N, R, or else P
---   plan_at text at the plan of the line that stands in the text at place `at`: its size, and the records in which it differs
+--   plan_in text    the plan of the line at the start of the text: its size, and the records in which it differs
 --
 -- Assumes nothing.
-use Rattle.std.specs.Prelude.{ℕ, ◌+◌, true, false, List, [], ◌∷◌, get_or, drop, replicate, eqb}
+use Rattle.std.specs.Prelude.{ℕ, ◌+◌, true, false, List, [], ◌∷◌, get_or, replicate, eqb}
 use Rattle.plan.specs.Lists.{upto}
 use Rattle.test_cases.specs.declared.plans.Base.{Base}
 use Rattle.test_cases.specs.declared.plans.Base.TheVariants.{P, Named, Row}
 use Rattle.test_cases.specs.declared.plans.Plan.{Plan}
 use Rattle.test_cases.specs.Records.{put_record, written, case_bytes}
-use Rattle.test_cases.specs.Lines.{number_at, numbers_in, changed}
+use Rattle.test_cases.specs.Lines.{number_in, number_or_zero, numbers_in, changed}
 
 unfoldable pub blank : List ℕ
 blank = replicate case_bytes 0
@@ -65,8 +65,8 @@ put_base b Row = put_row b
 abbrev pub base_of : ℕ → Base
 base_of c = elim (eqb c 78) [ true ↦ Named | false ↦ elim (eqb c 82) [ true ↦ Row | false ↦ P ] ]
 
-abbrev pub plan_at : List ℕ → ℕ → Plan
-plan_at text at = record {
-  bytes = changed (put_base blank (base_of (get_or text (at + 2) 10))) (numbers_in (drop (number_at text at).next text));
-  size = (number_at text at).value;
+abbrev pub plan_in : List ℕ → Plan
+plan_in text = record {
+  bytes = changed (put_base blank (base_of (get_or text 2 10))) (numbers_in (number_in text).rest);
+  size = number_or_zero text;
 }

@@ -9,12 +9,8 @@ pub fn read_full(rt: &impl Input, buf: &mut [u8]) -> usize
 {
     let mut input = rt.reader();
     let mut done = 0;
-    while done < buf.len() {
-        match input.read(&mut buf[done..]) {
-            Ok(0) => break,
-            Ok(n) => done += n,
-            Err(_) => break,
-        }
+    while let Ok(n @ 1..) = input.read(&mut buf[done..]) {
+        done += n;
     }
     done
 }

@@ -2,13 +2,17 @@
 //
 //   records   fields and records, written into a buffer
 //   lines     what a line of text says: numbers, signs and the records that it changes
+//   cases     the cases of a script, each with the plan that it is about
 //   plans     the plans that cases start from, among them plan P of the paper
-//   print     the name of a case, and numbers
+//   trips     the trips that lines say
+//   print     words and numbers
 //   input     what a program is given to read
 #![tactic(auto)]
 
+pub mod cases;
 pub mod input;
 pub mod lines;
 pub mod plans;
 pub mod print;
 pub mod records;
+pub mod trips;

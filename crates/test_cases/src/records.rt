@@ -14,21 +14,22 @@ pub const CASE_BYTES: usize = RECORD_BYTES * CASE_RECORDS;
 pub type Bytes = [u8; CASE_BYTES];
 
 // Writes field f of record r, if there is room.
+#[tactic(auto, unfolding(crate::specs::Records::put_field))]
 pub fn put_field(buf: &mut Bytes, r: usize, f: usize, v: u16)
     ensures { buf.new ≡ put_field buf.old r f v }
 {
-    if r < CASE_RECORDS {
-        if f < 6 {
-            record::put_field(buf, RECORD_BYTES * r + 2 * f, v);
-        }
+    if r < CASE_RECORDS && f < 6 {
+        record::put_field(buf, RECORD_BYTES * r + 2 * f, v);
     }
 }
 
 // Writes record r, if there is room.
+#[tactic(auto, unfolding(crate::specs::Records::put_record))]
 pub fn put(buf: &mut Bytes, r: usize, f: [u16; 6])
     ensures { buf.new ≡ put_record buf.old r f }
 {
     if r < CASE_RECORDS {
-        record::put_record(buf, r, f[0], f[1], f[2], f[3], f[4], f[5]);
+        let [f0, f1, f2, f3, f4, f5] = f;
+        record::put_record(buf, r, [f0, f1, f2, f3, f4, f5]);
     }
 }

@@ -1,10 +1,10 @@
-// The plans that the cases start from, written field by field.
+// The plans that the cases start from, written field by field, the kinds of records as numbers (see test_cases::plans).
 use plan::bounds::MAX_RECORDS;
 use test_cases::plans::put_p;
 use test_cases::records::{Bytes, put};
 
 // Where a case starts from.
-#[derive(Clone, Copy)]
+#[derive(Clone, Copy, Debug, PartialEq, Eq)]
 pub enum Base {
     // Plan P of the paper.
     P,
@@ -32,41 +32,36 @@ fn put_shuffled(buf: &mut Bytes) {
 }
 
 fn put_junctions(buf: &mut Bytes, j: u16) {
-    let mut r: u16 = 0;
-    while r < j {
-        r += 1;
-        put(buf, r as usize, [1, 0, 0, 0, 0, 0]);
+    for r in 1..=j {
+        put(buf, usize::from(r), [1, 0, 0, 0, 0, 0]);
     }
 }
 
 fn put_belts(buf: &mut Bytes, last: u16) {
     put(buf, 1, [1, 3, 0, 0, 0, 0]);
     put(buf, 2, [1, 0, 0, 0, 0, 0]);
-    let mut e: u16 = 3;
-    while e < last {
-        put(buf, e as usize, [2, e + 1, 2, 1, 0, 0]);
-        e += 1;
+    for e in 3..last {
+        put(buf, usize::from(e), [2, e + 1, 2, 1, 0, 0]);
     }
-    put(buf, last as usize, [2, 0, 2, 1, 0, 0]);
+    put(buf, usize::from(last), [2, 0, 2, 1, 0, 0]);
 }
 
 // Literal 54 names belt 3, and so on.
 fn put_literals(buf: &mut Bytes, last: u16) {
-    let mut l: u16 = 54;
-    while l < last {
-        put(buf, l as usize, [4, l + 1, 0, 0, l - 51, 0]);
-        l += 1;
+    for l in 54..last {
+        put(buf, usize::from(l), [4, l + 1, 0, 0, l - 51, 0]);
     }
     if 53 < last {
-        put(buf, last as usize, [4, 0, 0, 0, last - 51, 0]);
+        put(buf, usize::from(last), [4, 0, 0, 0, last - 51, 0]);
     }
 }
 
+// The plan `Named` of test_cases::plans has other belts, literals and modes. One function with all of these as numbers would be harder to read.
 fn put_named(buf: &mut Bytes, last: u16) {
     put_belts(buf, 52);
     put(buf, 53, [3, 0, 54, 0, 0, 0]);
     put_literals(buf, last);
-    if (last as usize) < MAX_RECORDS {
+    if usize::from(last) < MAX_RECORDS {
         put(buf, 0, [7, 2, 1, 53, last + 1, 0]);
     }
 }

@@ -3,37 +3,32 @@
 use crate::plans;
 use crate::plans::Base;
 use test_cases::lines;
-use test_cases::print::{print_name, print_number, print_words};
-use test_cases::records::{Bytes, CASE_BYTES};
+use test_cases::lines::{Line, Lines};
+use test_cases::print::{print_number, print_words};
+use test_cases::records::CASE_BYTES;
 
-// Prints the number that the check answers to the first n bytes; nothing where there are fewer.
-fn print_check(rt: &impl Print, bytes: &[u8], n: usize) {
-    if n <= bytes.len() {
-        let number = plan::check::number(plan::check::check(&bytes[..n]));
-        print_number(rt, b" ", number as u64);
+// Prints the number that the check answers.
+fn print_check(rt: &impl Print, p: &[u8]) {
+    let number = plan::refusal::number(plan::check::check(p));
+    print_number(rt, b" ", number);
+}
+
+// Runs the case of a line.
+fn case(rt: &impl Print, base: Base, mut line: Line) {
+    print_words(rt, line.next_name());
+    let size = line.number_or_zero() as usize;
+    let mut bytes = [0; CASE_BYTES];
+    plans::put_base(&mut bytes, base);
+    lines::change_records(&mut bytes, line.behind(b'|'));
+    if let Some(p) = bytes.get(..size) {
+        print_check(rt, p);
     }
-}
-
-fn print_answer(rt: &impl Print, buf: &Bytes, n: usize) {
-    print_check(rt, buf, n);
     print_words(rt, b"\n");
-}
-
-// Runs the case whose line begins at `at`.
-fn case(rt: &impl Print, base: Base, text: &[u8], at: usize) {
-    let mut buf = [0u8; CASE_BYTES];
-    plans::put_base(&mut buf, base);
-    let name_end = print_name(rt, text, at);
-    let size = lines::next_number(text, name_end);
-    lines::change_records(&mut buf, text, lines::behind(text, size.next, b'|'));
-    print_answer(rt, &buf, size.value as usize)
 }
 
 // Runs the case of each line, on a plan that starts from the base.
 pub fn cases(rt: &impl Print, base: Base, text: &[u8]) {
-    let mut at = 0;
-    while at < text.len() {
-        case(rt, base, text, at);
-        at = lines::next_line(text, at);
+    for line in Lines::of(text) {
+        case(rt, base, line);
     }
 }

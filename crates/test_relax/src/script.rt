@@ -11,44 +11,25 @@ use crate::answers;
 use output::Streams;
 use route::path;
 use route::path::Trip;
+use test_cases::cases::Cases;
+use test_cases::lines::Line;
 use test_cases::plans::Plan;
-use test_cases::print::print_name;
-use test_cases::{lines, plans};
+use test_cases::print::print_words;
 
-// Runs the case whose line begins at `at`.
-fn case(rt: &impl Streams, plan: Plan, text: &[u8], at: usize) {
-    let name_end = print_name(rt, text, at);
-    let s = lines::next_number(text, name_end);
-    let t = lines::next_number(text, s.next);
+// Runs the case of a line.
+fn case(rt: &impl Streams, plan: &Plan, mut line: Line) {
+    print_words(rt, line.next_name());
     let trip = Trip {
-        s: s.value,
-        t: t.value,
+        s: line.number_or_zero(),
+        t: line.number_or_zero(),
         lock: path::no_lock(),
     };
-    answers::answer(rt, plan, trip, text, t.next)
+    answers::answer(rt, plan, trip, line)
 }
 
-// The plan behind the line that begins at `at`; a case is run.
-fn stepped(rt: &impl Streams, plan: Plan, text: &[u8], at: usize) -> Plan {
-    let mark = lines::byte_at(text, at, 0);
-    if mark == b'=' {
-        return plans::read(text, at);
-    }
-    if mark == b' ' {
-        return plans::changed(plan, text, at);
-    }
-    if mark != b'#' && mark != b'\n' {
-        case(rt, plan, text, at);
-    }
-    plan
-}
-
-// Runs the lines, one after the other.
+// Runs the cases, one after the other.
 pub fn run(rt: &impl Streams, text: &[u8]) {
-    let mut plan = plans::none();
-    let mut at = 0;
-    while at < text.len() {
-        plan = stepped(rt, plan, text, at);
-        at = lines::next_line(text, at);
+    for (plan, line) in Cases::of(text) {
+        case(rt, &plan, line);
     }
 }

@@ -11,6 +11,7 @@ mod script;
 use test_cases::input;
 
 fn main(rt: HostRuntime) {
+    // The room for the text is the program's own, since there is no heap.
     let mut buf = [0u8; 65536];
     let n = input::read_full(&rt, &mut buf);
     script::run(&rt, &buf[..n])

@@ -12,128 +12,86 @@
 // A record is an index and six fields.
 use crate::answers::Asked;
 use crate::{answers, sheets};
-use plan::bounds::{FIELD_LIMIT, MAX_STEPS, RECORD_BYTES};
-use route::path::{Lock, Trip};
+use plan::bounds::{MAX_SHEET_BYTES, MAX_STEPS, RECORD_BYTES};
+use test_cases::lines::{Line, Lines};
 use test_cases::plans::{Base, Plan};
-use test_cases::print::print_name;
+use test_cases::print::print_words;
 use test_cases::records::{Bytes, CASE_BYTES};
-use test_cases::{lines, plans, records};
+use test_cases::trips::next_trip;
+use test_cases::{lines, records};
 
 // What the lines so far say: the plan at hand, where it starts from, and what is asked of its cases.
-#[derive(Clone, Copy)]
+#[derive(Clone, Copy, Debug)]
 struct State {
     asked: Asked,
     base: Base,
     plan: Plan,
 }
 
+impl State {
+    // What a line that says a plan changes, where its mark asks for this.
+    fn read(asked: Asked, line: Line) -> State {
+        State {
+            asked,
+            base: Base::of(line),
+            plan: Plan::read(line),
+        }
+    }
+}
+
 // Writes a field of record 0, if the number fits.
 fn put_head(sheet: &mut Bytes, field: usize, value: u64) {
-    if value < FIELD_LIMIT as u64 {
-        records::put_field(sheet, 0, field, value as u16);
+    if let Ok(value) = u16::try_from(value) {
+        records::put_field(sheet, 0, field, value);
     }
 }
 
 // Writes the k-th step, if the belt fits.
-fn put_belt(sheet: &mut Bytes, k: usize, belt: u64) {
-    if belt < FIELD_LIMIT as u64 {
-        sheets::put_step(sheet, k, belt as u16);
+fn put_belt(sheet: &mut Bytes, k: u16, belt: u64) {
+    if let Ok(belt) = u16::try_from(belt) {
+        sheets::put_step(sheet, k, belt);
     }
 }
 
-// Writes a step for each belt behind `at`, and answers the sheet's size.
-fn put_belts(sheet: &mut Bytes, text: &[u8], at: usize) -> usize {
-    let mut k = 0;
-    let mut i = at;
-    loop {
-        let belt = lines::next_number(text, i);
-        if !belt.found {
-            return RECORD_BYTES * k + RECORD_BYTES;
-        }
-        if k < MAX_STEPS {
-            k += 1;
-            put_belt(sheet, k, belt.value);
-        }
-        i = belt.next;
-    }
-}
-
-// The lock behind the plus of the line; without a plus no mode is locked.
-fn lock_of(text: &[u8], at: usize) -> Lock {
-    let mask = lines::next_number(text, lines::behind(text, at, b'+'));
-    let values = lines::next_number(text, mask.next);
-    Lock {
-        mask: mask.value,
-        values: values.value,
-    }
-}
-
-// Runs the case whose line begins at `at`.
-fn case(rt: &impl Print, state: State, text: &[u8], at: usize) {
-    let asked = state.asked;
-    let base = state.base;
-    let plan = state.plan;
-    let mut sheet = [0u8; CASE_BYTES];
-    sheets::put_sheet(&mut sheet, base);
-    let name_end = print_name(rt, text, at);
-    let s = lines::next_number(text, name_end);
-    let t = lines::next_number(text, s.next);
-    let cost = lines::next_number(text, t.next);
-    let setting = lines::next_number(text, cost.next);
-    put_head(&mut sheet, 4, cost.value);
-    put_head(&mut sheet, 5, setting.value);
-    let with_belts = put_belts(&mut sheet, text, setting.next);
-    let given = lines::next_number(text, lines::behind(text, setting.next, b'|'));
-    let size = if given.found {
-        given.value as usize
-    } else {
-        with_belts
-    };
-    lines::change_records(&mut sheet, text, given.next);
-    let trip = Trip {
-        s: s.value,
-        t: t.value,
-        lock: lock_of(text, t.next),
-    };
-    answers::answer(rt, asked, plan, trip, &sheet, size)
-}
-
-// What the mark of a plan asks for.
-fn asked_by(mark: u8) -> Asked {
-    if mark == b'?' {
-        return Asked::Lowest;
-    }
-    Asked::Number
-}
-
-// What the line that begins at `at` changes; a case is run.
-fn stepped(rt: &impl Print, state: State, text: &[u8], at: usize) -> State {
-    let mark = lines::byte_at(text, at, 0);
-    if mark == b'=' || mark == b'?' {
-        let plan = plans::read(text, at);
-        return State {
-            asked: asked_by(mark),
-            base: plans::base_of(text, at),
-            plan: plan,
+// Writes a step for each belt of the line, as many as a sheet may have, and answers the sheet's size.
+fn put_belts(sheet: &mut Bytes, mut line: Line) -> usize {
+    for k in 1..=MAX_STEPS as u16 {
+        let Some(belt) = line.next_number() else {
+            return RECORD_BYTES * usize::from(k);
         };
+        put_belt(sheet, k, belt);
     }
-    if mark != b'#' && mark != b'\n' {
-        case(rt, state, text, at);
-    }
-    state
+    MAX_SHEET_BYTES
+}
+
+// Runs the case of a line.
+fn case(rt: &impl Print, state: &State, mut line: Line) {
+    print_words(rt, line.next_name());
+    let trip = next_trip(&mut line);
+    let mut sheet = [0; CASE_BYTES];
+    sheets::put_sheet(&mut sheet, state.base);
+    put_head(&mut sheet, 4, line.number_or_zero());
+    put_head(&mut sheet, 5, line.number_or_zero());
+    let with_belts = put_belts(&mut sheet, line);
+    let mut given = line.behind(b'|');
+    let size = given.next_number().map_or(with_belts, |n| n as usize);
+    lines::change_records(&mut sheet, given);
+    answers::answer(rt, state.asked, &state.plan, trip, sheet.get(..size))
 }
 
 // Runs the lines, one after the other.
 pub fn run(rt: &impl Print, text: &[u8]) {
-    let plan = plans::none();
     let mut state = State {
         asked: Asked::Number,
         base: Base::P,
-        plan: plan,
+        plan: Plan::none(),
     };
-    let mut at = 0;
-    while at < text.len() {
-        state = stepped(rt, state, text, at);
-        at = lines::next_line(text, at);
+    for line in Lines::of(text) {
+        match line.byte(0) {
+            b'=' => state = State::read(Asked::Number, line),
+            b'?' => state = State::read(Asked::Lowest, line),
+            b'#' | b'\n' => {}
+            _ => case(rt, &state, line),
+        }
     }
 }

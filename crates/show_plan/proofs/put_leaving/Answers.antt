@@ -1,24 +1,15 @@
--- `show_plan::put_leaving` meets its contract: the chain is walked by the laws that an accepted plan promises. Assumes nothing.
-use mathlib.Core.Path.{sym, ap, ◌∙◌, subst}
-use native.Mathlib.Omega.{arith}
-use lib.ListN.{length}
-use Rattle.plan.specs.Reading.{IsBelt, belts_from}
-use Rattle.plan.proofs.Reading.{first_belt_is, next_belt_is, belts_next}
+use Rattle.std.proofs.Common.{refl, sym, subst, ◌∙◌}
+use mathlib.Core.List.{Memᴰ}
+use Rattle.plan.proofs.Reading.{on_belts}
 use Rattle.show_plan.proofs.put_leaving.Goals as goal
 
 pub loop-belt-init : goal.loop-belt-init
 loop-belt-init g c =
-    let e = c.first_belt-belt.ensures in
-    λ d. subst (IsBelt c.args.p.now) (sym e) (first_belt_is c.requires.0 _ c.requires.1 c.requires.2 (λ z. d (e ∙ z)))
+    let it = c.into_iter-belt-iterator.ensures.into_iter_gives ∙ c.belts_from-belt-items.ensures in
+    λ i m. on_belts c.args.placed.plan.accepted c.args.j c.requires.low c.requires.high i (subst (Memᴰ i) it m)
 
-pub loop-belt-smaller : goal.loop-belt-smaller
-loop-belt-smaller g c =
-    let p = c.args.p.now in
-    let s = ap length (belts_next c.requires.0 c.loop-belt.belt.0 (c.loop-belt.invariant c.loop-belt-test.true)) in
-    let n = ap (λ e. length (belts_from p e)) c.next_belt-belt.ensures in
-    omega (arith, s, n)
+pub put_belt-requires : goal.put_belt-requires
+put_belt-requires g c = c.loop-belt.invariant c.in-Some.belt.0 (subst (Memᴰ c.in-Some.belt.0) (sym c.in-Some.ensures.steps) (Memᴰ.head refl))
 
 pub loop-belt-preserved : goal.loop-belt-preserved
-loop-belt-preserved g c =
-    let e = c.next_belt-belt.ensures in
-    λ d. subst (IsBelt c.args.p.now) (sym e) (next_belt_is c.requires.0 _ (c.loop-belt.invariant c.loop-belt-test.true) (λ z. d (e ∙ z))).1
+loop-belt-preserved g c = λ i m. c.loop-belt.invariant i (subst (Memᴰ i) (sym c.in-Some.ensures.steps) (Memᴰ.tail m))

@@ -1,19 +1,27 @@
--- `show_plan::put_literals` meets its contract: the chain is walked by the laws that an accepted plan promises. Assumes nothing.
-use mathlib.Core.Path.{sym, ap, ◌∙◌, subst}
-use native.Mathlib.Omega.{arith}
-use lib.ListN.{length}
-use Rattle.plan.specs.Reading.{IsLiteral, literals_from}
-use Rattle.plan.proofs.Reading.{next_literal_is, literals_next}
+use Rattle.std.proofs.Common.{ℕ, List, refl, sym, subst, ◌∙◌}
+use mathlib.Core.List.{Memᴰ}
+use Rattle.plan.specs.Reading.{IsLiteral}
+use Rattle.plan.proofs.Reading.{on_literals}
+use Rattle.show_plan.proofs.put_literals.Given as given
 use Rattle.show_plan.proofs.put_literals.Goals as goal
+use Rattle.show_plan.proofs.put_literals.Goals.{In-Some}
 
-pub loop-literal-smaller-then-literal-ne0 : goal.loop-literal-smaller-then-literal-ne0
-loop-literal-smaller-then-literal-ne0 g c =
-    let p = c.args.p.now in
-    let s = ap length (literals_next c.requires.0 c.loop-literal.literal.0 (c.loop-literal.invariant c.loop-literal-test.true)) in
-    let n = ap (λ l. length (literals_from p l)) c.next_literal-literal.ensures in
-    omega (arith, s, n)
+-- all literals of the rule, of which one is first
+on_chain : (g : given.Over) (c : In-Some g) (i : ℕ) → Memᴰ i c.literals-literals.result → IsLiteral c.args.plan.bytes.now i
+on_chain g c i m = on_literals c.args.plan.accepted c.args.rule.0 c.requires i (subst (Memᴰ i) c.literals-literals.ensures m)
 
-pub loop-literal-preserved-then-literal-ne0 : goal.loop-literal-preserved-then-literal-ne0
-loop-literal-preserved-then-literal-ne0 g c =
-    let e = c.next_literal-literal.ensures in
-    λ d. subst (IsLiteral c.args.p.now) (sym e) (next_literal_is c.requires.0 _ (c.loop-literal.invariant c.loop-literal-test.true) (λ z. d (e ∙ z))).1
+pub literal-requires : goal.literal-requires
+literal-requires g c =
+    on_chain g (goal.at.literal-requires g c).In-Some c.in-Some.first.0 (subst (Memᴰ c.in-Some.first.0) (sym c.in-Some.ensures.steps) (Memᴰ.head refl))
+
+pub loop-literal-init : goal.loop-literal-init
+loop-literal-init g c =
+    λ i m. on_chain g (goal.at.loop-literal-init g c).In-Some i
+    (subst (Memᴰ i) (sym c.in-Some.ensures.steps) (Memᴰ.tail (subst (Memᴰ i) c.into_iter-literal-iterator.ensures.into_iter_gives m)))
+
+pub literal-requires-in-loop-literal : goal.literal-requires-in-loop-literal
+literal-requires-in-loop-literal g c =
+    c.loop-literal.invariant c.in-Some-literal.literal.0 (subst (Memᴰ c.in-Some-literal.literal.0) (sym c.in-Some-literal.ensures.steps) (Memᴰ.head refl))
+
+pub loop-literal-preserved : goal.loop-literal-preserved
+loop-literal-preserved g c = λ i m. c.loop-literal.invariant i (subst (Memᴰ i) (sym c.in-Some-literal.ensures.steps) (Memᴰ.tail m))

@@ -1,28 +1,15 @@
--- `show_plan::put_rules` meets its contract: the chain is walked by the laws that an accepted plan promises. Assumes nothing.
-use mathlib.Core.Path.{sym, ap, ◌∙◌, subst}
-use native.Mathlib.Omega.{arith}
-use lib.ListN.{length}
-use Rattle.plan.specs.Reading.{IsRule, IsLiteral, rules_from}
-use Rattle.plan.proofs.Reading.{first_rule_is, next_rule_is, rules_next, first_literal_is}
+use Rattle.std.proofs.Common.{refl, sym, subst, ◌∙◌}
+use mathlib.Core.List.{Memᴰ}
+use Rattle.plan.proofs.Reading.{on_rules}
 use Rattle.show_plan.proofs.put_rules.Goals as goal
 
 pub loop-rule-init : goal.loop-rule-init
 loop-rule-init g c =
-    let e = c.first_rule-rule.ensures in
-    λ d. subst (IsRule c.args.p.now) (sym e) (first_rule_is c.requires (λ z. d (e ∙ z)))
+    let it = c.into_iter-rule-iterator.ensures.into_iter_gives ∙ c.rules-rule-items.ensures in
+    λ i m. on_rules c.args.plan.accepted i (subst (Memᴰ i) it m)
 
-pub put_literals-said-requires : goal.put_literals-said-requires
-put_literals-said-requires g c =
-    let e = c.first_literal.ensures in
-    (c.requires, λ d. subst (IsLiteral c.args.p.now) (sym e) (first_literal_is c.requires _ (c.loop-rule.invariant c.loop-rule-test.true) (λ z. d (e ∙ z))))
-
-pub loop-rule-smaller : goal.loop-rule-smaller
-loop-rule-smaller g c =
-    let s = ap length (rules_next c.requires c.loop-rule.rule.0 (c.loop-rule.invariant c.loop-rule-test.true)) in
-    let n = ap (λ r. length (rules_from c.args.p.now r)) c.next_rule-rule.ensures in
-    omega (arith, s, n)
+pub put_literals-requires : goal.put_literals-requires
+put_literals-requires g c = c.loop-rule.invariant c.in-Some.rule.0 (subst (Memᴰ c.in-Some.rule.0) (sym c.in-Some.ensures.steps) (Memᴰ.head refl))
 
 pub loop-rule-preserved : goal.loop-rule-preserved
-loop-rule-preserved g c =
-    let e = c.next_rule-rule.ensures in
-    λ d. subst (IsRule c.args.p.now) (sym e) (next_rule_is c.requires _ (c.loop-rule.invariant c.loop-rule-test.true) (λ z. d (e ∙ z))).1
+loop-rule-preserved g c = λ i m. c.loop-rule.invariant i (subst (Memᴰ i) (sym c.in-Some.ensures.steps) (Memᴰ.tail m))

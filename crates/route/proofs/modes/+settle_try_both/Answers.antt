@@ -1,16 +1,22 @@
 -- `route::modes::settle` and `route::modes::try_both`, which call each other, meet their contracts. Assumes nothing.
-use Rattle.std.proofs.Common.{◌≡◌, sym, ap, subst, ◌∙◌, true, false, List, ℕ, ◌+◌, ◌*◌, ◌-◌, ◌^◌, ◌%◌, ◌≤◌, ◌⊎◌, inl, inr, arith, Bool}
+use Rattle.std.proofs.Common.{◌≡◌, refl, sym, ap, subst, ◌∙◌, true, false, List, ℕ, ◌+◌, ◌*◌, ◌-◌, ◌^◌, ◌%◌, ◌≤◌, ◌⊎◌, inl, inr, arith, Bool}
 use mathlib.Core.Option.{Option, none, some}
+use mathlib.Core.Bool.{true≢false}
+use Rattle.std.specs.Prelude.{Some, None}
+use Rattle.std.specs.Bool.{then_some}
+use Rattle.std.specs.Option.{is_some}
+use Rattle.std.specs.declared.option.Option as answer
 use Rattle.plan.specs.Bounds.{max_modes}
 use Rattle.plan.specs.Plan.{plan_of}
 use Rattle.plan.proofs.Lists.{test as two_ways}
 use Rattle.route.specs.declared.path.Lock.{Lock}
-use Rattle.route.specs.Permission.{is_on, locked_terms, works, find, otherwise}
-use Rattle.route.specs.Values.{has_belt}
+use Rattle.route.specs.Permission.{is_on, locked_terms, works, find, or_else, otherwise}
+use Rattle.route.specs.Values.{has_belt, setting_in}
 use Rattle.route.specs.Inner.{Settled, settings_at}
 use Rattle.route.proofs.RulesLowest.{halves, weight}
 use Rattle.route.proofs.RulesSettle.{next_same, next_on, leaf, tried_locked, tried_both}
 use Rattle.route.proofs.modes.+settle_try_both.Goals as goal
+use Rattle.route.proofs.modes.+settle_try_both.Goals.{try_both-then-is_some-via-then-is_some, try_both-then-is_some-via-else-is_some+then-is_on}
 
 -- the test that the settings are put to
 abbrev test : List ℕ → ℕ → Lock → ℕ → Bool
@@ -48,49 +54,62 @@ module _ (b : List ℕ) (belts : ℕ) (k : Lock) (locked m σ : ℕ) (from : 1 �
       go (inl is_locked) = only_first is_locked ∙ first
       go (inr free) = in_order free (some low) first
 
-pub settle-returns-then-all_met : goal.settle-returns-then-all_met
-settle-returns-then-all_met t c =
-    λ b k ruled mask settled.
-    let met = sym (c.all_met.ensures b ruled) ∙ c.if-all_met.true in
-    sym (leaf settled (has_belt b c.args.belts) c.if-mode-eq0.true true met)
+  where_found : (o : answer.Option ℕ) → is_some o ≡ true → found b belts k (m - 1) σ ≡ setting_in o → found b belts k m σ ≡ setting_in o
+  where_found (Some low) some_is first = either_way low first
+  where_found None some_is first = absurd (true≢false (sym some_is))
 
-pub try_both-settle-first-requires : goal.try_both-settle-first-requires
-try_both-settle-first-requires t c =
+where_none : (o : answer.Option ℕ) → is_some o ≡ false → setting_in o ≡ none
+where_none (Some low) none_is = absurd (true≢false none_is)
+where_none None none_is = refl
+
+-- the setting, where the rules are met
+setting_if : (t : Bool) (σ : ℕ) → setting_in (then_some t σ) ≡ or_else t σ none
+setting_if true σ = refl
+setting_if false σ = refl
+
+pub settle-returns-then-mode-eq0 : goal.settle-returns-then-mode-eq0
+settle-returns-then-mode-eq0 t c =
+    λ b k ruled mask settled.
+    ap setting_in c.then_some.ensures
+    ∙ setting_if c.all_met.result c.args.setting
+    ∙ sym (leaf settled (has_belt b c.args.belts) c.if-mode-eq0.true c.all_met.result (sym (c.all_met.ensures b ruled)))
+
+pub try_both-settle-off-requires : goal.try_both-settle-off-requires
+try_both-settle-off-requires t c =
     let m = c.args.mode.0 in
     let h = c.requires in
     (omega (arith, h.5), (h.0, h.1, h.2, h.3, next_same h.4 h.5, omega (arith, h.6), omega (arith, h.7, halves m h.5)))
-
-pub try_both-returns-then-has_mode : goal.try_both-returns-then-has_mode
-try_both-returns-then-has_mode t c =
-    let from = c.requires.5 in
-    let locked = sym c.has_mode.ensures ∙ c.if-has_mode.true in
-    λ b k ruled mask settled.
-    let first = c.in-Nothing.ensures b k ruled mask (next_same settled from) in
-    sym (only_first b c.args.belts k c.args.locked c.args.mode.0 c.args.setting from mask settled locked ∙ sym first)
 
 pub try_both-settle-requires : goal.try_both-settle-requires
 try_both-settle-requires t c =
     let m = c.args.mode.0 in
     let h = c.requires in
-    let free = sym c.has_mode.ensures ∙ c.if-has_mode.false in
+    let free = sym c.is_on.ensures ∙ c.if-is_on.false in
     let on = turned_on h.0 c.args.belts h.1 c.args.locked m c.args.setting h.5 h.3 h.4 h.6 free in
     (omega (arith, h.5), (h.0, h.1, h.2, h.3, on, omega (arith, h.6), omega (arith, h.7, halves m h.5, weight m h.6)))
 
-pub try_both-returns-in-Works : goal.try_both-returns-in-Works
-try_both-returns-in-Works t c =
+pub try_both-returns-then-is_some : goal.try_both-returns-then-is_some
+try_both-returns-then-is_some t c =
+    let a = c.args in
     let from = c.requires.5 in
     λ b k ruled mask settled.
-    let first = c.in-Works.ensures b k ruled mask (next_same settled from) in
-    sym (either_way b c.args.belts k c.args.locked c.args.mode.0 c.args.setting from mask settled c.in-Works.low (sym first))
+    let first = sym (c.settle-off.ensures b k ruled mask (next_same settled from)) in
+    elim c.then-is_some.branch [
+      | try_both-then-is_some-via-then-is_some w ↦
+          sym (where_found b a.belts k a.locked a.mode.0 a.setting from mask settled c.settle-off.result (sym c.is_some.ensures ∙ w.if-is_some.true) first)
+      | try_both-then-is_some-via-else-is_some+then-is_on w ↦
+          sym (only_first b a.belts k a.locked a.mode.0 a.setting from mask settled (sym w.is_on.ensures ∙ w.if-is_on.true) ∙ first)
+    ]
 
-pub try_both-returns-else-has_mode : goal.try_both-returns-else-has_mode
-try_both-returns-else-has_mode t c =
+pub try_both-returns : goal.try_both-returns
+try_both-returns t c =
     let a = c.args in
     let m = a.mode.0 in
     let h = c.requires in
-    let free = sym c.has_mode.ensures ∙ c.if-has_mode.false in
+    let free = sym c.is_on.ensures ∙ c.if-is_on.false in
     λ b k ruled mask settled.
-    let first = c.in-Nothing.ensures b k ruled mask (next_same settled h.5) in
+    let first = sym (c.settle-off.ensures b k ruled mask (next_same settled h.5)) in
+    let nothing = where_none c.settle-off.result (sym c.is_some.ensures ∙ c.if-is_some.false) in
     c.settle.ensures b k ruled mask (turned_on b a.belts k a.locked m a.setting h.5 mask settled h.6 free)
     ∙ ap (λ (w : ℕ). find (test b a.belts k) (settings_at (m - 1) (a.setting + w))) (weight m h.6)
-    ∙ sym (in_order b a.belts k a.locked m a.setting h.5 mask settled free none (sym first))
+    ∙ sym (in_order b a.belts k a.locked m a.setting h.5 mask settled free none (first ∙ nothing))

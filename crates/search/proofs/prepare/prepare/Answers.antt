@@ -1,8 +1,7 @@
--- The arrays are those of the plan: each call writes one of them, or a part.
-use mathlib.Core.Path.{◌∙◌}
-use native.Mathlib.Omega.{arith}
+use Rattle.std.proofs.Common.{◌∙◌, arith}
 use lib.ListN.{set}
-use Rattle.std.proofs.lemmas.List.Edits.{sets}
+use borrow.Rule.Slice.PartMut.{put_mid}
+use Rattle.plan.specs.Bounds.{max_named}
 use Rattle.plan.specs.Plan.{plan_of}
 use Rattle.plan.proofs.Reading.{plan_sizes}
 use Rattle.search.specs.Values.{counts_from, modes_from}
@@ -10,17 +9,11 @@ use Rattle.search.proofs.PrepareNumbers.{numbers_made}
 use Rattle.search.proofs.prepare.prepare.Goals as goal
 
 pub overflow_cast-numbers : goal.overflow_cast-numbers
-overflow_cast-numbers c = record { fits = omega (arith, c.modes.ensures, (plan_sizes c.requires.0).2) }
+overflow_cast-numbers c = record { fits = omega (arith, c.modes.ensures, (plan_sizes c.args.plan.accepted).2) }
 
-pub returns : goal.returns
-returns c =
-    let ok = c.requires.0 in
-    let p = plan_of c.args.p.now in
-    let list = c.named_belts-list.ensures in (
-      c.fill.ensures.0,
-      (λ i. set (c.put_counts.ensures i) modes_from (c.modes.ensures i))
-          ∙ (λ i. set (sets (c.fill.ensures.1 i) counts_from (c.rule_counts.ensures i)) modes_from p.modes)
-          ∙ numbers_made ok,
-      c.places_among.ensures c.args.p.now ok list.0 list.1,
-      c.decode.ensures,
-    )
+-- the counts and the number of modes are stored behind what the words have filled
+pub returns-clause-numbers : goal.returns-clause-numbers
+returns-clause-numbers c =
+    let modes = (plan_of c.args.plan.bytes.now).modes in
+    let counts = c.copy_from_slice.ensures.after ∙ c.rule_counts-counts.ensures in
+    (λ i. set (put_mid counts_from max_named (c.fill_words.ensures.numbers i) (counts i)) modes_from (c.modes.ensures i)) ∙ numbers_made c.args.plan.accepted

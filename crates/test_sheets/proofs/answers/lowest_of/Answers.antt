@@ -7,11 +7,11 @@ use Rattle.route.proofs.RulesEntries.{ruled_lent}
 use Rattle.test_sheets.proofs.answers.lowest_of.Goals as goal
 
 pub decode-requires : goal.decode-requires
-decode-requires c = (c.requires.0, c.named_places-places.ensures, refl, (records_few c.requires.0).0)
+decode-requires c = (c.named_places-places.ensures, refl, (records_few c.args.plan.accepted).0)
 
 pub on_route-mask-requires : goal.on_route-mask-requires
-on_route-mask-requires c = route_placeable c.requires.0 c.args.r c.requires.1 c.named_places-places.ensures
+on_route-mask-requires c = route_placeable c.args.plan.accepted c.args.r c.requires.0 c.named_places-places.ensures
 
 pub lowest_setting-requires : goal.lowest_setting-requires
 lowest_setting-requires c =
-    (c.args.p.now, ruled_lent c.requires.0 max_records (records_few c.requires.0).0 c.decode.ensures, c.modes.ensures, c.requires.2)
+    (c.args.plan.bytes.now, ruled_lent c.args.plan.accepted max_records (records_few c.args.plan.accepted).0 c.decode.ensures, c.modes.ensures, c.requires.1)

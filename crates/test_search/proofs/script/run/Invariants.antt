@@ -1,6 +1,0 @@
--- `run`: the bytes left are fewer at each turn.
-use Rattle.std.proofs.Common.{◌-◌, length}
-use Rattle.test_search.proofs.script.run.Given as goal
-
-abbrev pub decreases-loop-at : goal.decreases-loop-at
-decreases-loop-at g l = length l.text - l.at
