@@ -12,7 +12,7 @@
 mod usage;
 
 use archive::entry;
-use command::buffer::PlanBytes;
+use command::buffer::{PlanBytes, Word};
 use command::failure::Failure;
 use command::{arguments, files, plans, program, refusals};
 use output::{Printer, Streams};
@@ -52,8 +52,8 @@ fn answer<R: Files + Input + RandomSource + Alloc + Streams>(
 // Does what the arguments ask.
 fn run<R: Env + Files + Input + RandomSource + Alloc + Streams>(rt: &R) -> Result<(), Failure> {
     arguments::at_most(rt, 2)?;
-    let plan = arguments::input(rt, 1, b"PLAN")?;
-    let name = arguments::file(rt, 2, b"OUT")?;
+    let plan: Word = arguments::input(rt, 1, b"PLAN")?;
+    let name: Word = arguments::file(rt, 2, b"OUT")?;
     let p: PlanBytes = files::read(rt, plan.as_bytes())?;
     answer(rt, p.as_bytes(), name.as_bytes())
 }

@@ -8,7 +8,7 @@
 
 mod usage;
 
-use command::buffer::{Buffer, PlanBytes};
+use command::buffer::{Buffer, PlanBytes, Word};
 use command::failure::Failure;
 use command::{arguments, files, program, refusals};
 use output::Streams;
@@ -49,9 +49,9 @@ fn check_files<R: Files + Input + Streams>(
 // Does what the arguments ask.
 fn run<R: Env + Files + Input + Streams>(rt: &R) -> Result<(), Failure> {
     arguments::at_most(rt, 6)?;
-    let plan = arguments::input(rt, 1, b"PLAN")?;
+    let plan: Word = arguments::input(rt, 1, b"PLAN")?;
     let trip = asked(rt)?;
-    let sheet = arguments::file(rt, 4, b"SHEET")?;
+    let sheet: Word = arguments::file(rt, 4, b"SHEET")?;
     check_files(rt, plan.as_bytes(), trip, sheet.as_bytes())
 }
 

@@ -1,6 +1,6 @@
 // The words that a program is started with, counted from 1. Which words those are is outside the logic. Where one is not as it should be, standard
 // error says so.
-use crate::buffer::Word;
+use crate::buffer::{Buffer, Word};
 use crate::decimal;
 use crate::failure::{Failure, misuse};
 use crate::files::STANDARD_INPUT;
@@ -18,17 +18,18 @@ pub enum Request {
     Work,
 }
 
-// Argument i, if there is one that fits into a word.
-fn argument<R: Env>(rt: &R, i: usize) -> Result<Word, FillError> {
-    let mut room = [0u8; 4096];
-    let size = rt.arg(i, &mut room)?;
-    Ok(Word::of_room(room, size))
+// Argument i, if there is one of at most N bytes.
+fn argument<R: Env, const N: usize>(rt: &R, i: usize) -> Result<Buffer<N>, FillError> {
+    let mut room = [0u8; N];
+    let size = rt.arg(i, room.as_mut_slice())?;
+    Ok(Buffer::of_room(room, size))
 }
 
 // What the first word asks for.
 pub fn requested<R: Env>(rt: &R) -> Request {
-    let Ok(word) = argument(rt, 1) else {
-        return Request::Work;
+    let word: Word = match argument(rt, 1) {
+        Ok(word) => word,
+        Err(_) => return Request::Work,
     };
     match word.as_bytes() {
         b"-h" | b"--help" => Request::Usage,
@@ -37,8 +38,12 @@ pub fn requested<R: Env>(rt: &R) -> Request {
     }
 }
 
-// Argument i, which has to be there and may not be empty.
-pub fn word<R: Env + Streams>(rt: &R, i: usize, name: &[u8]) -> Result<Word, Failure> {
+// Argument i, which has to be there, may not be empty, and has at most N bytes.
+pub fn word<R: Env + Streams, const N: usize>(
+    rt: &R,
+    i: usize,
+    name: &[u8],
+) -> Result<Buffer<N>, Failure> {
     match argument(rt, i) {
         Ok(word) if word.as_bytes().is_empty() => Err(misuse(rt, name, b" is empty")),
         Ok(word) => Ok(word),
@@ -48,8 +53,12 @@ pub fn word<R: Env + Streams>(rt: &R, i: usize, name: &[u8]) -> Result<Word, Fai
 }
 
 // The same of an argument that names a file, and so does not begin as an option does. The name - stands for standard input.
-pub fn input<R: Env + Streams>(rt: &R, i: usize, name: &[u8]) -> Result<Word, Failure> {
-    let word = word(rt, i, name)?;
+pub fn input<R: Env + Streams, const N: usize>(
+    rt: &R,
+    i: usize,
+    name: &[u8],
+) -> Result<Buffer<N>, Failure> {
+    let word: Buffer<N> = word(rt, i, name)?;
     let bytes = word.as_bytes();
     if 1 < bytes.len() && bytes.starts_with(b"-") {
         return Err(misuse(
@@ -70,8 +79,12 @@ pub fn input_or_standard<R: Env + Streams>(rt: &R, i: usize, name: &[u8]) -> Res
 }
 
 // The same of a file that has to have a name of its own.
-pub fn file<R: Env + Streams>(rt: &R, i: usize, name: &[u8]) -> Result<Word, Failure> {
-    let word = input(rt, i, name)?;
+pub fn file<R: Env + Streams, const N: usize>(
+    rt: &R,
+    i: usize,
+    name: &[u8],
+) -> Result<Buffer<N>, Failure> {
+    let word: Buffer<N> = input(rt, i, name)?;
     if word.as_bytes() == STANDARD_INPUT {
         return Err(misuse(rt, name, b" can't be -; it is the name of a file"));
     }
@@ -80,12 +93,13 @@ pub fn file<R: Env + Streams>(rt: &R, i: usize, name: &[u8]) -> Result<Word, Fai
 
 // Whether there is an argument i.
 pub fn given<R: Env>(rt: &R, i: usize) -> bool {
-    !matches!(argument(rt, i), Err(FillError::NotPresent))
+    let word: Result<Word, FillError> = argument(rt, i);
+    !matches!(word, Err(FillError::NotPresent))
 }
 
 // Argument i as a number.
 pub fn number<R: Env + Streams>(rt: &R, i: usize, name: &[u8]) -> Result<u64, Failure> {
-    let word = word(rt, i, name)?;
+    let word: Word = word(rt, i, name)?;
     match decimal::decimal(word.as_bytes()) {
         Some(value) => Ok(value),
         None => Err(misuse(rt, name, b" is no number from 0 to 18446744073709551615")),

@@ -14,7 +14,7 @@
 
 mod usage;
 
-use command::buffer::PlanBytes;
+use command::buffer::{PlanBytes, Word};
 use command::failure::Failure;
 use command::{arguments, files, program, refusals, sheets};
 use output::Streams;
@@ -87,9 +87,9 @@ fn find<R: Files + Input + RandomSource + Alloc + Streams>(
 // Does what the arguments ask.
 fn run<R: Env + Files + Input + RandomSource + Alloc + Streams>(rt: &R) -> Result<(), Failure> {
     arguments::at_most(rt, 9)?;
-    let plan = arguments::input(rt, 1, b"PLAN")?;
+    let plan: Word = arguments::input(rt, 1, b"PLAN")?;
     let query = asked(rt)?;
-    let sheet = arguments::file(rt, 4, b"SHEET")?;
+    let sheet: Word = arguments::file(rt, 4, b"SHEET")?;
     find(rt, plan.as_bytes(), query, sheet.as_bytes())
 }
 
