@@ -1,6 +1,8 @@
 -- The list and the places of the named belts: the arrays that the code makes, and what they say.
 --
 --   drop_replicate    what is left of a fresh array is fresh
+--   length_listed, listed_at
+--                     the array has 48 places, and the first of them hold the named belts
 --   ids_sets          belts stored from the front of a fresh array stand there, and the rest of it is fresh
 --   listed_sets       stored in an array of 48 they are `listed`
 --   numbered          the elements of a list numbered in an array
@@ -16,7 +18,7 @@ use mathlib.Core.Bool.{Bool, true, false, ◌||◌}
 use Prim.Native.Nat.{ℕ, zero, suc, ◌+◌, ◌-◌, ◌≤◌, ◌<◌}
 use mathlib.Core.List.{List, [], ◌∷◌, ◌++◌, map, Memᴰ}
 use native.Mathlib.Omega.{arith}
-use lib.ListN.{length, get_or, drop, set, replicate, length-set, length-map, length-replicate, get_or-replicate}
+use lib.ListN.{length, get_or, drop, set, replicate, length-set, length-map, length-replicate, get_or-replicate, length-append, get_or-append, get_or-map}
 use lib.Seq.{get_or-set_same, get_or-set_other, sets, sets-eq}
 use lib.Dec.{eqb, ltb}
 use borrow.Author.Tests.{eqb-true, eqb-false, ne_eqb, lt-ltb, le-ltb}
@@ -44,6 +46,15 @@ stored n a vs h =
     let size = length-replicate n a in
     let e : n - (0 + length vs) ≡ n - length vs = omega arith in
     sets-eq vs (replicate n a) 0 (omega arith) ∙ ap (λ (l : List _). vs ++ l) (drop_replicate (0 + length vs) n a ∙ ap (λ (m : ℕ). replicate m a) e)
+
+-- the array has 48 places, and the first of them hold the named belts
+pub length_listed : (ns : List ℕ) → length ns ≤ max_named → length (listed ns) ≡ max_named
+length_listed ns h =
+    omega (arith, length-append (map belt_id ns) (replicate (max_named - length ns) (belt_id 0)), length-map ns belt_id, length-replicate (max_named - length ns) (belt_id 0))
+
+pub listed_at : (ns : List ℕ) (k : ℕ) → k < length ns → get_or (listed ns) k (belt_id 0) ≡ belt_id (get_or ns k 0)
+listed_at ns k h =
+    get_or-append (map belt_id ns) (replicate (max_named - length ns) (belt_id 0)) (belt_id 0) k (omega (arith, length-map ns belt_id)) ∙ get_or-map belt_id ns k 0
 
 pub ids_sets : (n : ℕ) (es : List ℕ) → length es ≤ n
     → sets (replicate n (belt_id 0)) 0 (map belt_id es) ≡ map belt_id es ++ replicate (n - length es) (belt_id 0)

@@ -51,9 +51,24 @@ impl<'a> Named<'a> {
         requires { places.old ≡ replicate max_records 0 }
         ensures { places.new ≡ places_of (named (plan_of self.now.plan.bytes.now)) }
     {
-        for (k, belt) in self.belts().iter().enumerate() {
-            places[usize::from(belt.0)] = (k + 1) as u8;
-        }
+        places_among(self.belts(), places);
+    }
+}
+
+// The same from the list of named belts alone: the plan that they are of is not at hand. What is filled is said of every accepted plan with these named
+// belts, and there has to be one.
+pub fn places_among(belts: &[BeltId], places: &mut [u8; MAX_RECORDS])
+    requires list { (b : List ℕ)
+        × Accepted b
+        × (belts.now ≡ map belt_id (named (plan_of b))) }
+    requires fresh { places.old ≡ replicate max_records 0 }
+    ensures { (b : List ℕ)
+        → Accepted b
+        → belts.now ≡ map belt_id (named (plan_of b))
+        → places.new ≡ places_of (named (plan_of b)) }
+{
+    for (k, belt) in belts.iter().enumerate() {
+        places[usize::from(belt.0)] = (k + 1) as u8;
     }
 }
 
