@@ -1,4 +1,4 @@
--- What the values that the code hands about mean. `Trip`, `Route`, `Sheet`, `Lowest`, `Fixings` and `Summary` are declared by the code.
+-- What the values that the code hands about mean. `Trip`, `Route`, `Sheet`, `Fixings` and `Summary` are declared by the code.
 --
 --   ids_of r          the indices of the belts that a Route holds: the first `count` of its array
 --   packed es        the Route that holds the belts es, the rest of its array 0. A Route has room for max_steps, so of more it holds the first

@@ -31,7 +31,7 @@ fn with_bit(number: u32, bit: bool) -> u32
     2 * number + u32::from(bit)
 }
 
-// The code of a literal. `places` are those of the named belts (plan::named::named_places).
+// The code of a literal. `places` are those of the named belts (AcceptedPlan::named_places).
 fn code_of(places: &[u8; MAX_RECORDS], literal: Literal) -> u32
     requires { Codable places.now literal }
     ensures { result ≡ code_in places.now literal }
@@ -84,7 +84,7 @@ fn put_literals(plan: AcceptedPlan, places: &[u8; MAX_RECORDS], clauses: &mut [u
 }
 
 // Fills the array with the clauses of an accepted plan. It is all 0 before, and has a place for each record or more. `places` are those of the named
-// belts (plan::named::named_places). Each literal is read once.
+// belts (AcceptedPlan::named_places). Each literal is read once.
 pub fn decode(plan: AcceptedPlan, places: &[u8; MAX_RECORDS], clauses: &mut [u32])
     requires { (places.now ≡ named_places plan.bytes.now)
         × (clauses.old ≡ replicate (length clauses.old) 0)

@@ -22,7 +22,7 @@ pub fn with(mask: u64, place: Option<usize>) -> u64
     place.map_or(mask, |k| mask | (1 << k))
 }
 
-// The named belts on a route. `places` are those of the named belts (plan::named::named_places).
+// The named belts on a route. `places` are those of the named belts (AcceptedPlan::named_places).
 pub fn on_route(places: &[u8; MAX_RECORDS], route: Route) -> u64
     requires { Placeable places.now route }
     ensures { result ≡ gathered_in places.now 0 (ids_of route) }

@@ -75,7 +75,7 @@ fn try_both(clauses: &[u32], belts: u64, locked: u64, mode: ModeId, setting: u16
 }
 
 // The lowest setting that works for a trip, if any does, where the named belts of the mask `belts` are on the route (masks::on_route): the rule test of a route.
-// `modes` is how many modes the plan has (plan::read::modes), and `clauses` are its clauses (clauses::decode).
+// `modes` is how many modes the plan has (AcceptedPlan::modes), and `clauses` are its clauses (clauses::decode).
 pub fn lowest_setting(modes: usize, clauses: &[u32], trip: Trip, belts: u64) -> Option<u16>
     requires { (b : List ℕ)
         × Ruled b clauses.now

@@ -5,9 +5,9 @@
 //
 // The answer has the cost of the route, if it is within a bound, how many belts it has, and which named ones. The belts themselves stay in an array
 // that the caller lends: they are read only if the route becomes the best, or has to be compared with the best belt by belt (path::of_belts).
-ghost use Rattle.std.specs.Prelude.{◌≡◌, ℕ, ◌^◌, ◌≤◌, ◌<◌, false, ◌&&◌, List, ltb};
+ghost use Rattle.std.specs.Prelude.{◌≡◌, ℕ, ◌^◌, ◌≤◌, ◌<◌, false, ◌&&◌, List, replicate, ltb};
 ghost use Rattle.std.proofs.lemmas.List.Edits.{sets};
-ghost use Rattle.plan.specs.Bounds.{max_junctions, max_named};
+ghost use Rattle.plan.specs.Bounds.{max_junctions, max_named, max_steps};
 ghost use Rattle.plan.specs.Plan.{Belt, plan_of, indices_of};
 ghost use Rattle.plan.specs.Words.{way_limit, tail_place_at, named_at};
 ghost use Rattle.route.specs.Routes.{wrong_ends};
@@ -44,11 +44,13 @@ pub struct Summary {
 pub struct Scratch {
     ways: [Way; MAX_JUNCTIONS],
     pub walked: [u16; MAX_STEPS],
-    ghost empty: { ways ≡ no_ways },
+    pub ghost empty: { ways ≡ no_ways },
 }
 
 impl Scratch {
-    pub fn new() -> Self {
+    pub fn new() -> Self
+        ensures { result.walked ≡ replicate max_steps 0 }
+    {
         Scratch {
             ways: [Way::EMPTY; MAX_JUNCTIONS],
             walked: [0; MAX_STEPS],
@@ -120,7 +122,7 @@ fn clear(ways: &mut [Way; MAX_JUNCTIONS], s: usize, t: usize)
 
 // The relaxed route from s to t of a subproblem, if there is one that costs at most `bound`: the indices of its belts are stored in `scratch`, and what it
 // has behind them does not change. `words`, `numbers` and `places` are made once for all subproblems of a plan: its belts as words (plan::words), and the
-// places of its named belts (plan::named::named_places).
+// places of its named belts (AcceptedPlan::named_places).
 pub fn relaxed_route(
     words: &[u64],
     numbers: &[u16; NUMBERS],

@@ -43,7 +43,7 @@ fn add_rule(counts: &mut [u16; MAX_NAMED], count: usize, mask: u64)
     }
 }
 
-// In how many rules each named belt of an accepted plan is. `places` are those of its named belts (plan::named::named_places), of which there are
+// In how many rules each named belt of an accepted plan is. `places` are those of its named belts (AcceptedPlan::named_places), of which there are
 // `count`. Each rule is read once.
 pub fn rule_counts(plan: AcceptedPlan, places: &[u8; MAX_RECORDS], count: usize) -> [u16; MAX_NAMED]
     requires places { places.now ≡ named_places plan.bytes.now }
