@@ -114,14 +114,14 @@ impl<'a, R: Streams> Printer<'a, R> {
 
     // Writes what is gathered to standard output, and answers whether that or an earlier write has failed. It is no `Result`, since the error has been
     // told by then and no caller goes on with it.
-    pub fn finish(self) -> bool
-        ensures { self.entry.failed ≡ true → result ≡ true }
+    pub fn finish(&self) -> bool
+        ensures { self.now.failed ≡ true → result ≡ true }
     {
         self.write()
     }
 
     // Writes what is gathered to standard error. It is for text that fits into the room, since full room goes to standard output.
-    pub fn complain(self) {
+    pub fn complain(&self) {
         let _ = self.rt.complain_bytes(self.gathered());
     }
 }
