@@ -54,7 +54,8 @@ fn run<R: Env + Files + Input + RandomSource + Alloc + Streams>(rt: &R) -> Resul
     arguments::at_most(rt, 2)?;
     let plan: Word = arguments::input(rt, 1, b"PLAN")?;
     let name: Word = arguments::file(rt, 2, b"OUT")?;
-    let p: PlanBytes = files::read(rt, plan.as_bytes())?;
+    let mut p = PlanBytes::new();
+    files::read(rt, plan.as_bytes(), &mut p)?;
     answer(rt, p.as_bytes(), name.as_bytes())
 }
 

@@ -36,9 +36,11 @@ fn check_files<R: Files + Input + Streams>(
     trip: Trip,
     sheet: &[u8],
 ) -> Result<(), Failure> {
-    let p: PlanBytes = files::read(rt, plan)?;
+    let mut p = PlanBytes::new();
+    files::read(rt, plan, &mut p)?;
     // Longer than any sheet, so that a byte too many is seen.
-    let h: Buffer<4096> = files::read(rt, sheet)?;
+    let mut h = Buffer::<4096>::new();
+    files::read(rt, sheet, &mut h)?;
     match check::check(p.as_bytes(), trip, h.as_bytes()) {
         Ok(()) => output::print(rt, b"accepted\n"),
         Err(r) => refusals::print_refused(rt, r),

@@ -2,8 +2,9 @@
 --
 --   value_next      the value of one byte more
 --   value_part      the first bytes have no larger value than all
---   digits_next     one digit more
---   written_large   a text whose first bytes are too large writes no number
+--   digits_next     one digit more; below_digits, above_digits: a byte that is none
+--   written_empty, written_stops, written_large
+--                   an empty text writes no number, nor one with a byte that is no digit, nor one whose first bytes are too large
 --   written_whole   digits below 2^64 write their value
 --
 -- Assumes nothing.
@@ -11,15 +12,15 @@ use mathlib.Core.Path.{◌≡◌, refl, sym, ◌∙◌, ap}
 use mathlib.Core.Bool.{Bool, true, false, ◌&&◌}
 use mathlib.Core.Option.{none, some}
 use mathlib.Core.List.{List, [], ◌∷◌, ◌++◌}
-use Prim.Native.Nat.{ℕ, ◌+◌, ◌-◌, ◌*◌, ◌^◌, ◌≤◌, ◌<◌}
+use Prim.Native.Nat.{ℕ, suc, ◌+◌, ◌-◌, ◌*◌, ◌^◌, ◌≤◌, ◌<◌}
 use native.Mathlib.Omega.{arith}
 use native.Mathlib.Nat.{zero-mul, zero-add, add-mul, add_assoc, mul_assoc, zero-lt-suc, one-le-pow, le-mul_of_pos_right}
 use native.Mathlib.Numerals.{add-one}
 use lib.ListN.{length, get_or, take, drop, length-append, take-append-drop}
-use lib.Seq.{take-suc}
-use lib.Dec.{leb}
+use lib.Seq.{take-suc, split_at}
+use lib.Dec.{leb, ltb}
 use lib.Pow.{pow-add}
-use borrow.Author.Tests.{le-leb, lt-ltb, le-ltb}
+use borrow.Author.Tests.{le-leb, lt-leb, lt-ltb, le-ltb}
 use Rattle.plan.specs.Lists.{all}
 use Rattle.command.specs.Decimal.{is_digit, value, only_if, written}
 
@@ -70,15 +71,42 @@ pub digits_next : (t : List ℕ) (i : ℕ) → i < length t → all is_digit (ta
 digits_next t i h before this =
     ap (all is_digit) (part_next t i h) ∙ all_append is_digit (take i t) (get_or t i 0 ∷ []) ∙ (λ k. before k && (this k && true))
 
+-- a byte below or above the digits is none of them
+pub below_digits : (b : ℕ) → b < 48 → is_digit b ≡ false
+below_digits b h = ap (λ (t : Bool). t && leb b 57) (lt-leb 48 b h)
+
+pub above_digits : (b : ℕ) → 57 < b → is_digit b ≡ false
+above_digits b h = ap (λ (t : Bool). leb 48 b && t) (lt-leb b 57 h) ∙ and_false (leb 48 b)
+
+digits_stop : (t : List ℕ) (i : ℕ) → i < length t → is_digit (get_or t i 0) ≡ false → all is_digit t ≡ false
+digits_stop t i h e =
+    ap (all is_digit) (split_at t i 0 h)
+    ∙ all_append is_digit (take i t) (get_or t i 0 ∷ drop (suc i) t)
+    ∙ ap (λ (b : Bool). all is_digit (take i t) && (b && all is_digit (drop (suc i) t))) e
+    ∙ and_false (all is_digit (take i t))
+
 -- ---- what is written
 
--- no number, where the last of the three tests fails
+-- no number, where one of the three tests fails
+no_first : {a : Bool} (b c : Bool) (n : ℕ) → a ≡ false → only_if (a && b && c) n ≡ none
+no_first b c n e = ap (λ (a : Bool). only_if (a && b && c) n) e
+
+no_second : (a : Bool) {b : Bool} (c : Bool) (n : ℕ) → b ≡ false → only_if (a && b && c) n ≡ none
+no_second true c n e = ap (λ (b : Bool). only_if (b && c) n) e
+no_second false c n e = refl
+
 no_third : (a b : Bool) {c : Bool} (n : ℕ) → c ≡ false → only_if (a && b && c) n ≡ none
 no_third true true n e = ap (λ (c : Bool). only_if c n) e
 no_third true false n e = refl
 no_third false b n e = refl
 
 module _ (t : List ℕ) where
+  pub written_empty : length t ≡ 0 → written t ≡ none
+  written_empty e = no_first (all is_digit t) (ltb (value t) (2 ^ 64)) (value t) (lt-leb 1 (length t) (omega arith))
+
+  pub written_stops : (i : ℕ) → i < length t → is_digit (get_or t i 0) ≡ false → written t ≡ none
+  written_stops i h e = no_second (leb 1 (length t)) (ltb (value t) (2 ^ 64)) (value t) (digits_stop t i h e)
+
   pub written_large : (i : ℕ) → 18446744073709551616 ≤ value (take i t) → written t ≡ none
   written_large i h =
       no_third (leb 1 (length t)) (all is_digit t) (value t) (le-ltb (value t) (2 ^ 64) (omega (arith, value_part t i)))

@@ -37,7 +37,8 @@ fn is_there<R: Files + Streams>(rt: &R, path: &[u8]) -> Result<bool, Failure> {
 
 // A file has to hold these bytes and nothing else.
 fn holds<R: Files + Input + Streams>(rt: &R, path: &[u8], bytes: &[u8]) -> Result<(), Failure> {
-    let contents: PlanBytes = files::read(rt, path)?;
+    let mut contents = PlanBytes::new();
+    files::read(rt, path, &mut contents)?;
     if contents.as_bytes() == bytes {
         return Ok(());
     }

@@ -60,19 +60,24 @@ fn fill_and_rename<R: Files>(
     rename(rt, temporary, to)
 }
 
-// The same with a temporary name of its own. Where any of it fails, the temporary file is removed, and what had the name has it still.
-fn write_at<R: Files + RandomSource>(
+// The same with a temporary name of its own. Where any of it fails, standard error says why, and then the temporary file is removed; what had the name has
+// it still.
+fn write_at<R: Files + RandomSource + Streams>(
     rt: &R,
     to: &[u8],
     bytes: &[u8],
     older: Option<u32>,
-) -> io::Result<()> {
+) -> Result<(), Failure> {
     let temporary = paths::temporary(rt, to);
     let name = temporary.as_bytes();
-    let file = paths::create(rt, name)?;
+    let file = match paths::create(rt, name) {
+        Ok(file) => file,
+        Err(e) => return Err(refused_by_system(rt, to, e)),
+    };
     if let Err(e) = fill_and_rename(rt, file, name, to, bytes, older) {
+        let failure = refused_by_system(rt, to, e);
         remove(rt, name);
-        return Err(e);
+        return Err(failure);
     }
     sync_folder(rt, paths::folder(to).as_bytes());
     Ok(())
@@ -86,10 +91,8 @@ pub fn save<R: Files + RandomSource + Alloc + Streams>(
     bytes: &[u8],
     older: Option<u32>,
 ) -> Result<(), Failure> {
-    let target = match paths::followed(rt, path) {
-        Ok(target) => target,
-        Err(e) => return Err(refused_by_system(rt, path, e)),
-    };
-    let name = target.as_bytes();
-    write_at(rt, name, bytes, older).map_err(|e| refused_by_system(rt, name, e))
+    match paths::followed(rt, path) {
+        Ok(target) => write_at(rt, target.as_bytes(), bytes, older),
+        Err(e) => Err(refused_by_system(rt, path, e)),
+    }
 }

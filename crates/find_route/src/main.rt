@@ -80,7 +80,8 @@ fn find<R: Files + Input + RandomSource + Alloc + Streams>(
 ) -> Result<(), Failure> {
     let source = files::open(rt, plan)?;
     let older = sheets::look(rt, sheet, &source)?;
-    let p: PlanBytes = files::read_opened(rt, source, plan)?;
+    let mut p = PlanBytes::new();
+    files::read_opened(rt, source, plan, &mut p)?;
     answer(rt, p.as_bytes(), query, sheet, older)
 }
 

@@ -26,7 +26,8 @@ use usage::USAGE;
 fn run<R: Env + Files + Input + Streams>(rt: &R) -> Result<(), Failure> {
     arguments::at_most(rt, 1)?;
     let name = arguments::input_or_standard(rt, 1, b"PLAN")?;
-    let p: PlanBytes = files::read(rt, name.as_bytes())?;
+    let mut p = PlanBytes::new();
+    files::read(rt, name.as_bytes(), &mut p)?;
     if let Err(r) = listing::print_listing(rt, p.as_bytes()) {
         refusals::tell_cause(rt, r);
     }

@@ -136,7 +136,8 @@ fn show<R: Streams>(rt: &R, p: &[u8]) {
 fn run<R: Env + Files + Input + Streams>(rt: &R) -> Result<(), Failure> {
     arguments::at_most(rt, 1)?;
     let name = arguments::input_or_standard(rt, 1, b"PLAN")?;
-    let p: PlanBytes = files::read(rt, name.as_bytes())?;
+    let mut p = PlanBytes::new();
+    files::read(rt, name.as_bytes(), &mut p)?;
     show(rt, p.as_bytes());
     Ok(())
 }
