@@ -6,6 +6,7 @@
 --                     the number of the first broken line: that of the plan, and where the plan is accepted 16 or 0
 --   refused_told, written_told
 --                     what is answered on a refusal, and where the archive form was written
+--   told_fits         what is told of as written lies within the buffer
 --   refused_claim     RefusedClaim; unrefused_plan: where nothing is refused, the plan is accepted
 --   limits_claim      InLimitsClaim
 --
@@ -17,7 +18,7 @@ use mathlib.Core.List.{List, [], ◌∷◌, ◌++◌, map}
 use native.Mathlib.Omega.{arith}
 use lib.ListN.{length, drop, length-append}
 use borrow.Author.Tests.{lt-ltb, le-ltb}
-use Rattle.std.specs.Prelude.{Ok, Err, Option, IfSome, MatchOption}
+use Rattle.std.specs.Prelude.{Ok, Err, Result, Option, IfSome, MatchOption}
 use Rattle.plan.specs.declared.refusal.Refusal.{Refusal}
 use Rattle.plan.specs.declared.read.RuleId.{RuleId}
 use Rattle.plan.specs.declared.read.Literal.{Literal}
@@ -33,7 +34,7 @@ use Rattle.archive.specs.Renaming.{renamed_rules}
 use Rattle.archive.specs.Content.{Content, content_of, place}
 use Rattle.archive.specs.Form.{fields, record_bytes_of, bytes_of, chain_start, legs_start}
 use Rattle.archive.specs.Form.{junction_records, leg_records, rule_records, header_of, records_of, archive_of}
-use Rattle.archive.specs.Answers.{Lent, lent_of, broken16, line16, archive_lines, archive_refusal, written_or, Told}
+use Rattle.archive.specs.Answers.{Lent, lent_of, broken16, line16, archive_lines, archive_refusal, written_or, size_in, Told}
 use Rattle.archive.specs.Claims.{RefusedClaim, InLimitsClaim}
 use Rattle.archive.specs.Inner.{rules_in}
 use Rattle.archive.proofs.RecordBytes.{length_bytes}
@@ -171,3 +172,18 @@ written_told {b} ok out after h e =
           ∙ ap (λ (m : ℕ). form ++ drop m out) size
           ∙ sym (ap (λ (m : ℕ). written_or {A = List ℕ} m (form ++ drop (length form) out) out) none);
     }
+
+-- what is told of as written lies within the buffer
+pub told_fits : (v : Result ℕ Refusal) (b before after : List ℕ) → Told v b before after → size_in v ≤ length after
+told_fits v b before after told = go (archive_refusal (lent_of b before)) refl
+  where
+    go : (n : ℕ) → archive_refusal (lent_of b before) ≡ n → size_in v ≤ length after
+    go zero e =
+        let form = archive_of (plan_of b) in
+        let size : size_in v ≡ length form = told.size ∙ ap (λ (m : ℕ). written_or {A = ℕ} m (length form) 0) e in
+        let put : after ≡ form ++ drop (length form) before =
+        told.out ∙ ap (λ (m : ℕ). written_or {A = List ℕ} m (form ++ drop (length form) before) before) e in
+        omega (arith, size, ap length put, length-append form (drop (length form) before))
+    go (suc n) e =
+        let size : size_in v ≡ 0 = told.size ∙ ap (λ (m : ℕ). written_or {A = ℕ} m (length (archive_of (plan_of b))) 0) e in
+        omega (arith, size)

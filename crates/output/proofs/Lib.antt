@@ -1,3 +1,4 @@
 -- Laws, each file after those that it rests on.
+pub mod Powers
 pub mod Gathering
 pub mod Digits

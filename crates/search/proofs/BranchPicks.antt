@@ -77,13 +77,13 @@ module _ (f g : ℕ → Bool) (n : ℕ) where
   all_over (suc k) l h = all_over k (omega arith) (λ j m. h j (omega arith)) ∙ passed_over k (omega arith) (h k (omega arith))
 
   module _ (w x : ℕ) (few : n ≤ w) (bits : (k : ℕ) → in_mask x (Some k) ≡ (g k && f k)) where
-    lowest_here : count_trailing_zeros w x < n → found_from 0 ≡ some (count_trailing_zeros w x)
+    pub lowest_here : count_trailing_zeros w x < n → found_from 0 ≡ some (count_trailing_zeros w x)
     lowest_here l =
         let k = count_trailing_zeros w x in
         let (passes-k, kept-k) = both (g k) (f k) (sym (bits k) ∙ lowest_set w x (omega arith)) in
         all_over k (omega arith) (λ j m. sym (bits j) ∙ lowest_none w x j m) ∙ at_kept k l kept-k true passes-k
 
-    lowest_over : n ≤ count_trailing_zeros w x → found_from 0 ≡ none
+    pub lowest_over : n ≤ count_trailing_zeros w x → found_from 0 ≡ none
     lowest_over l =
         all_over n (omega arith) (λ j m. sym (bits j) ∙ lowest_none w x j (omega arith)) ∙ ap (find g) (keep_done f n n (omega arith))
 

@@ -24,7 +24,7 @@ unfolding blank
 blank_is = refl
 
 -- a record that is written over b is written over a, where b ≡ a
-over : {a b c : List ℕ} (r : ℕ) (fs : List ℕ) → b ≡ a → c ≡ put_record b r fs → c ≡ put_record a r fs
+pub over : {a b c : List ℕ} (r : ℕ) (fs : List ℕ) → b ≡ a → c ≡ put_record b r fs → c ≡ put_record a r fs
 over r fs e h = h ∙ ap (λ (k : List ℕ). put_record k r fs) e
 
 module _ (a b c d : List ℕ) (e : ℕ) where
